@@ -1,0 +1,14 @@
+pub mod Lists
+pub mod Sums
+pub mod Select
+pub mod Order
+pub mod Smallest
+pub mod Totals
+pub mod Ties
+pub mod Fewest
+pub mod Demand3
+pub mod Published
+pub mod Examples
+pub mod Loops
+pub mod Tables
+pub mod Widths

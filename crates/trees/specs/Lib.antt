@@ -1,0 +1,5 @@
+pub mod Sums
+pub mod Trees
+pub mod Order
+pub mod Weights
+pub mod Published

@@ -1,0 +1,28 @@
+-- The bytes of a hash value: their number, and one turn of the loop that writes them.
+-- Assumes nothing.
+use mathlib.Core.Path.{_≡_, refl, sym}
+use mathlib.Core.List.{List}
+use Prim.Native.Nat.{ℕ, zero, suc, _+_, _*_, _<_}
+use native.Mathlib.Numerals.{add-one}
+use native.Mathlib.Omega.{arith}
+use lib.ListN.{length, getD, length-append}
+use Rattle.sha256.specs.Buffer.{pasted, zeroFilled}
+use Rattle.sha256.specs.Sha256.{wordBytes, joined}
+use Rattle.sha256.proofs.Pasted.{pasted-next}
+
+pub word-bytes-length : (x : ℕ) → length (wordBytes x) ≡ 4
+unfolding wordBytes
+word-bytes-length x = refl
+
+pub joined-length : (h : List ℕ) (n : ℕ) → length (joined h n) ≡ 4 * n
+unfolding joined
+joined-length h zero = refl
+joined-length h (suc i) =
+    omega (arith, length-append (joined h i) (wordBytes (getD h i 0)), word-bytes-length (getD h i 0), joined-length h i)
+
+pub joined-turn : (h out : List ℕ) (i : ℕ) → i < 8 → out ≡ zeroFilled 32 (joined h i)
+    → pasted out (4 * i) (wordBytes (getD h i 0)) ≡ zeroFilled 32 (joined h (i + 1))
+unfolding joined
+joined-turn h out i l e =
+    rw (e, add-one)
+    (pasted-next 32 (joined h i) (wordBytes (getD h i 0)) (4 * i) (sym (joined-length h i)) (omega (arith, word-bytes-length (getD h i 0))))

@@ -1,0 +1,8 @@
+pub mod Pasted
+pub mod Chain
+pub mod Joined
+pub mod Padding
+pub mod Last
+pub mod Lists
+pub mod Hash
+pub mod Examples

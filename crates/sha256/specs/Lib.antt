@@ -1,0 +1,3 @@
+pub mod Buffer
+pub mod Sha256
+pub mod Digest

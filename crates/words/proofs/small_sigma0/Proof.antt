@@ -1,0 +1,19 @@
+-- `words::small_sigma0` meets its contract.
+-- Assumes nothing.
+use borrow.Author.Needs.{needs}
+use Rattle.words.specs.Words.{smallSigma0}
+use Rattle.words.proofs.small_sigma0.Statement.{statement}
+use Rattle.words.proofs.small_sigma0.Tie as tie
+
+rotr-requires : tie.Need-rotr-requires
+rotr-requires c κs = search needs
+
+rotr-requires-2 : tie.Need-rotr-requires-2
+rotr-requires-2 c κs = search needs
+
+returns : tie.Need-returns
+unfolding smallSigma0
+returns c = cc
+
+pub small-sigma0-spec : {M : Type 1} → statement M
+small-sigma0-spec = tie.close (tie.spec rotr-requires rotr-requires-2 returns)

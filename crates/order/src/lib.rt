@@ -5,6 +5,7 @@ ghost use lib.ListN.{take};
 ghost use Rattle.order.specs.Table.{alone, rowAt, joined, labelRow, orderTable, atOrBelow};
 
 // An over-pair, the numbers of one `OV` record.
+#[repr(C)]
 pub struct Pair {
     pub upper: u8,
     pub lower: u8,

@@ -1,0 +1,5 @@
+pub mod Marks
+pub mod Bytes
+pub mod Names
+pub mod Search
+pub mod Form

@@ -1,0 +1,21 @@
+-- The six marks of 01, "Every record opens with a two-byte ASCII mark", as ASCII bytes.
+use Prim.Native.Nat.{ℕ}
+use mathlib.Core.List.{List, [], _∷_}
+
+abbrev pub LB : List ℕ
+LB = 76 ∷ 66 ∷ []
+
+abbrev pub OV : List ℕ
+OV = 79 ∷ 86 ∷ []
+
+abbrev pub TR : List ℕ
+TR = 84 ∷ 82 ∷ []
+
+abbrev pub EN : List ℕ
+EN = 69 ∷ 78 ∷ []
+
+abbrev pub KS : List ℕ
+KS = 75 ∷ 83 ∷ []
+
+abbrev pub KD : List ℕ
+KD = 75 ∷ 68 ∷ []

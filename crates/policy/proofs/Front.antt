@@ -1,0 +1,141 @@
+-- A policy's answer follows from its first 2,828 bytes: the records of an accepted policy take at most 2,816 bytes, and every
+-- record is judged by its first 12.
+use Prim.Native.Nat.{ℕ, zero, suc, _+_, _*_, _≤_}
+use mathlib.Core.Bool.{cond}
+use mathlib.Core.List.{List, _++_}
+use mathlib.Core.Path.{_≡_, refl, sym, ap, _∙_}
+use native.Mathlib.Decide.{decLe}
+use native.Mathlib.Omega.{arith}
+use borrow.Author.Tests.{le-ltb}
+use lib.Dec.{ltb}
+use lib.ListN.{length, take, drop, length-append, take-append-drop, List·getD-append}
+use lib.Seq.{length-take-le, take-all}
+use Rattle.format.specs.Bytes.{sameBytes}
+use Rattle.format.specs.Marks.{LB, OV}
+use Rattle.policy.proofs.Answered.{started}
+use Rattle.policy.proofs.Listed.{first-same, listed-same, front-bytes}
+use Rattle.policy.proofs.Meaning.{Means, is-end, is-refused, is-label, is-over, meaning, kind-of, marked}
+use Rattle.policy.proofs.Verdict.{policyFrom, bounds}
+use Rattle.policy.specs.File.{placeOf, nameOf, countOf, pairAt, isNamed, labelNamed}
+use Rattle.policy.specs.Record.{labelKind, overKind, markedKind, kindAt}
+use Rattle.policy.specs.Rows.{bytesLeft, markOf}
+use Rattle.policy.specs.Tables.{listed}
+use Rattle.policy.specs.Whole.{onKind, scanFrom, scanned, labelsOf, pairCount, pairsOf, policyOf}
+use Rattle.policy.specs.declared.Kind.the-variants.{Refused}
+use Rattle.policy.specs.declared.Kind.{Kind}
+use Rattle.policy.specs.declared.Scan.{Scan}
+
+-- two files that say the same of their first 64 labels and 512 pairs, and are accepted or refused alike
+pub record Agree (a b : List ℕ) : Type 0 where
+  pub verdict : scanned a ≡ scanned b
+  pub names : (i : ℕ) → i ≤ 64 → nameOf a i ≡ nameOf b i
+  pub counts : (i : ℕ) → i ≤ 64 → countOf a i ≡ countOf b i
+  pub pairs : (labels k : ℕ) → labels ≤ 64 → k ≤ 512 → pairAt a labels k ≡ pairAt b labels k
+
+-- a record with at least 12 bytes from its start on
+long-kind : (file : List ℕ) (labels pairs : ℕ) → 12 ≤ bytesLeft file labels pairs → kindAt file labels pairs
+    ≡ cond (sameBytes (markOf file labels pairs) LB) (cond (ltb 0 pairs) (Refused 4) (labelKind file labels))
+    (cond (sameBytes (markOf file labels pairs) OV) (overKind file labels pairs) (Refused 2))
+unfolding markedKind
+long-kind file labels pairs h =
+    marked file labels pairs (omega arith)
+    ∙ rw (le-ltb (bytesLeft file labels pairs) 12 h, le-ltb (bytesLeft file labels pairs) 4 (omega arith))
+
+module _ (front back : List ℕ) (long : 2828 ≤ length front) where
+  name-same : (i : ℕ) → i ≤ 64 → nameOf (front ++ back) i ≡ nameOf front i
+  unfolding nameOf
+  name-same i h = front-bytes front back (12 * i + 2) 8 (omega arith)
+
+  count-same : (i : ℕ) → i ≤ 64 → countOf (front ++ back) i ≡ countOf front i
+  unfolding countOf
+  count-same i h =
+      rw (List·getD-append front back 0 (12 * i + 10) (omega arith), List·getD-append front back 0 (12 * i + 10 + 1) (omega arith))
+
+  pair-same : (labels k : ℕ) → labels ≤ 64 → k ≤ 512 → pairAt (front ++ back) labels k ≡ pairAt front labels k
+  unfolding pairAt
+  pair-same labels k l h =
+      rw (
+        List·getD-append front back 0 (placeOf labels k + 2) (omega arith),
+        List·getD-append front back 0 (placeOf labels k + 3) (omega arith),
+      )
+
+  named-same : (labels : ℕ) (name : List ℕ) → labels ≤ 64 → labelNamed (front ++ back) labels name ≡ labelNamed front labels name
+  unfolding labelNamed isNamed
+  named-same labels name h =
+      first-same (isNamed (front ++ back) name) (isNamed front name) labels 0
+      (λ k l. ap (λ (n : List ℕ). sameBytes n name) (name-same k (omega arith)))
+
+  kind-same : (labels pairs : ℕ) → labels ≤ 64 → pairs ≤ 512 → kindAt (front ++ back) labels pairs ≡ kindAt front labels pairs
+  unfolding labelKind overKind
+  kind-same labels pairs l p =
+      long-kind (front ++ back) labels pairs (simp length-append (omega arith))
+      ∙ rw (
+        front-bytes front back (placeOf labels pairs) 2 (omega arith),
+        name-same labels l,
+        named-same labels (nameOf front labels) l,
+        count-same labels l,
+        pair-same labels pairs l p,
+      )
+      (sym (long-kind front labels pairs (omega arith)))
+
+  scan-same : (n labels pairs : ℕ) → labels ≤ 64 → pairs ≤ 512 → scanFrom n (front ++ back) labels pairs ≡ scanFrom n front labels pairs
+  unfolding scanFrom
+  scan-same zero labels pairs l p = refl
+  scan-same (suc n) labels pairs l p =
+      let m = meaning front labels pairs in
+      rw (kind-same labels pairs l p, kind-of front labels pairs (m .1)) (go (scan-same n) (m .1))
+    where
+      go : ((i k : ℕ) → i ≤ 64 → k ≤ 512 → scanFrom n (front ++ back) i k ≡ scanFrom n front i k)
+          → {k : Kind} → Means front labels pairs k
+          → onKind (scanFrom n (front ++ back)) (front ++ back) labels pairs k ≡ onKind (scanFrom n front) front labels pairs k
+      go rest (is-end e) = absurd (omega arith)
+      go rest (is-refused r) = refl
+      go rest (is-label r) = rest (labels + 1) pairs (omega (arith, r .label .fits)) p
+      go rest (is-over r) = rest labels (pairs + 1) l (omega (arith, r .over .fits))
+
+  scanned-same : scanned (front ++ back) ≡ scanned front
+  scanned-same =
+      started (front ++ back) (simp length-append (omega arith)) ∙ scan-same 577 0 0 (omega arith) (omega arith)
+      ∙ sym (started front (omega arith))
+
+  scanned-agrees : Agree (front ++ back) front
+  scanned-agrees = record { verdict = scanned-same; names = name-same; counts = count-same; pairs = pair-same }
+
+-- two files that agree are answered alike, and have the same pairs
+module _ (a b : List ℕ) (same : Agree a b) where
+  pub agree-policy : policyOf a ≡ policyOf b
+  unfolding policyOf
+  agree-policy =
+      let labels = labelsOf b in
+      let pairs = pairCount b in
+      let l = bounds b .0 in
+      let p = bounds b .1 in
+      ap (policyFrom a) (same .verdict)
+      ∙ rw (
+        listed-same (countOf a) (countOf b) labels (λ i h. same .counts i (omega arith)),
+        listed-same (pairAt a labels) (pairAt b labels) pairs (λ k h. same .pairs labels k l (omega arith)),
+      )
+
+  pub agree-pairs : pairsOf a ≡ pairsOf b
+  unfolding pairsOf
+  agree-pairs =
+      let l = bounds b .0 in
+      let p = bounds b .1 in
+      ap (λ (s : Scan). listed (pairAt a (s .labels)) (s .pairs)) (same .verdict)
+      ∙ listed-same (pairAt a (labelsOf b)) (pairAt b (labelsOf b)) (pairCount b) (λ k h. same .pairs (labelsOf b) k l (omega arith))
+
+-- A file says the same as its first 2,828 bytes, so it has their answer.
+pub front-agrees : (file : List ℕ) → Agree file (take 2828 file)
+front-agrees file = go (decLe (length file) 2828)
+  where
+    go : Dec (length file ≤ 2828) → Agree file (take 2828 file)
+    go (yes short) =
+        rw (take-all 2828 file short)
+        (record { verdict = refl; names = λ i h. refl; counts = λ i h. refl; pairs = λ labels k l h. refl })
+    go (no long) =
+        let front = take 2828 file in
+        let enough : 2828 ≤ length front = rw (length-take-le 2828 file (omega arith)) (omega arith) in
+        rw (take-append-drop 2828 file) at (scanned-agrees front (drop 2828 file) enough)
+
+pub front-answers : (file : List ℕ) → policyOf file ≡ policyOf (take 2828 file)
+front-answers file = agree-policy file (take 2828 file) (front-agrees file)

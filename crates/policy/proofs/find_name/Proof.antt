@@ -1,0 +1,75 @@
+-- `policy::find_name` meets its contract. Invariant: the answer is that of a search from label i on.
+use Prim.Native.Nat.{_-_, _≤_}
+use mathlib.Core.Bool.{true, false}
+use mathlib.Core.Path.{_≡_, sym, _∙_}
+use native.Mathlib.Omega.{arith}
+use denote.Ref.{now}
+use Rattle.format.proofs.Search.{first-start, none-at, hit-at, miss-at}
+use Rattle.format.specs.Search.{firstFrom}
+use Rattle.policy.proofs.Names.{named}
+use Rattle.policy.proofs.find_name.Statement.{statement}
+use Rattle.policy.proofs.find_name.Tie as tie
+use Rattle.policy.specs.File.{isNamed, labelNamed}
+
+abbrev Inv-loop : tie.InvT-loop
+Inv-loop policy labels name i₀ i = (i ≤ labels) × (labelNamed policy labels name ≡ firstFrom (isNamed policy name) i (labels - i))
+
+abbrev μ-loop : tie.MeasureT-loop
+μ-loop policy labels name i₀ i = labels - i
+
+loop-holds : tie.Need-loop-holds Inv-loop μ-loop
+unfolding labelNamed
+loop-holds c = (omega arith, first-start _ _)
+
+mul-stands : tie.Need-mul-stands Inv-loop μ-loop
+mul-stands c = omega arith
+
+add-stands : tie.Need-add-stands Inv-loop μ-loop
+add-stands c = omega arith
+
+stands-requires : tie.Need-stands-requires Inv-loop μ-loop
+stands-requires c κs = omega arith
+
+add-i : tie.Need-add-i Inv-loop μ-loop
+add-i c = omega arith
+
+loop-less : tie.Need-loop-less Inv-loop μ-loop
+loop-less c = omega arith
+
+loop-again : tie.Need-loop-again Inv-loop μ-loop
+loop-again c =
+    let l = c .before .before .before .before .loop in
+    let a = c .before .before .before .before .before .before .args in
+    let name = now (a .name) in
+    let e : isNamed (now (a .policy)) name (l .i) ≡ false = named (now (a .policy)) name (l .i) (omega arith) ∙ sym (c .before .stands .ensures) ∙ c .if2 .left in
+    (omega arith, l .inv .1 ∙ miss-at (isNamed (now (a .policy)) name) (l .i) (a .labels) (omega arith) e)
+
+returns : tie.Need-returns Inv-loop μ-loop
+returns c =
+    let l = c .before .loop in
+    let a = c .before .before .before .args in
+    sym (l .inv .1 ∙ none-at (isNamed (now (a .policy)) (now (a .name))) (l .i) (a .labels) (c .if1 .taken))
+
+returns-2 : tie.Need-returns-2 Inv-loop μ-loop
+returns-2 c =
+    let l = c .before .before .before .before .loop in
+    let a = c .before .before .before .before .before .before .args in
+    let name = now (a .name) in
+    let e : isNamed (now (a .policy)) name (l .i) ≡ true = named (now (a .policy)) name (l .i) (omega arith) ∙ sym (c .before .stands .ensures) ∙ c .if2 .taken in
+    sym (l .inv .1 ∙ hit-at (isNamed (now (a .policy)) name) (l .i) (a .labels) (omega arith) e)
+
+pub find-name-spec : {M : Type 1} → statement M
+find-name-spec =
+    tie.close
+    (tie.spec
+    Inv-loop
+    μ-loop
+    loop-holds
+    mul-stands
+    add-stands
+    stands-requires
+    add-i
+    loop-less
+    loop-again
+    returns
+    returns-2)

@@ -1,0 +1,5 @@
+pub mod Tables
+pub mod File
+pub mod Record
+pub mod Whole
+pub mod Rows

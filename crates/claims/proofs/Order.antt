@@ -1,0 +1,25 @@
+-- The order of an accepted policy file is one that the theory of trees speaks of: the chain of its `OV` records is what is meant,
+-- the table is what is tested.
+use Prim.Native.Nat.{ℕ, _≤_, _<_}
+use mathlib.Core.Bool.{true}
+use mathlib.Core.List.{List}
+use mathlib.Core.Logic.{_↔_}
+use mathlib.Core.Path.{_≡_}
+use native.Mathlib.Omega.{arith}
+use Rattle.order.proofs.Order.{at-or-below-refl, at-or-below-trans, at-or-below-le, at-or-below-top}
+use Rattle.order.specs.Order.{AtOrBelow}
+use Rattle.order.specs.Table.{atOrBelow}
+use Rattle.policy.proofs.Lawful.{lawful}
+use Rattle.policy.proofs.Ordered.{accepted-proper, accepted-topped, order-exact}
+use Rattle.policy.specs.Whole.{labelsOf, pairsOf, Accepted, orderOf}
+use Rattle.trees.specs.Order.{Order}
+
+pub policy-order : (file : List ℕ) → Accepted file → Order (labelsOf file) (AtOrBelow (pairsOf file)) (atOrBelow (orderOf file))
+policy-order file ok = record {
+  some = lawful file ok .someLabel;
+  tested = λ m l hm hl. (λ e. order-exact file ok m l .0 e .2, λ b. order-exact file ok m l .1 (hm, hl, b));
+  same = λ m hm. at-or-below-refl (pairsOf file) m;
+  chain = λ m l k hm hl hk a b. at-or-below-trans a b;
+  upper = λ m l hm hl b. at-or-below-le (accepted-proper file ok) b;
+  under = at-or-below-top (accepted-proper file ok) (accepted-topped file ok);
+}

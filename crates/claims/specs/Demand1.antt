@@ -1,0 +1,30 @@
+-- Demand 1 for policies: "Every policy file .. be it empty, cut short or noise, is either read or refused under a number from the list.
+-- A refusal yields zeros beside the number". The rows of 01's table stand in words in the policy crate's specs/Rows.antt.
+use Prim.Native.Nat.{ℕ, _≤_, _<_}
+use mathlib.Core.List.{List}
+use mathlib.Core.Logic.{_↔_, _⊎_}
+use mathlib.Core.Path.{_≡_}
+use lib.ListN.{length, take}
+use Rattle.policy.specs.Rows.{NoMark, CutShort, LateLabel, TooMany, BadName, NameCarried, NoSuchLabel, NotAbove, Unplaced, NoneRefuses, Reached, refusedPolicy}
+use Rattle.policy.specs.Whole.{refusalOf, labelsOf, pairCount, Accepted, policyOf}
+
+pub record Demand1 (file : List ℕ) : Type 0 where
+  -- "either read or refused under a number from the list"; an accepted file's number is 0, so never both
+  pub answered : Accepted file ⊎ ((1 ≤ refusalOf file) × (refusalOf file ≤ 10))
+  -- "A refusal yields zeros beside the number"
+  pub zeros : 0 < refusalOf file → policyOf file ≡ refusedPolicy (refusalOf file)
+  -- "Given when, and only when reached": a number is answered exactly when all records before pass and its row holds
+  pub empty : (refusalOf file ≡ 1) ↔ (length file ≡ 0)
+  pub no-mark : (refusalOf file ≡ 2) ↔ Reached file NoMark
+  pub cut-short : (refusalOf file ≡ 3) ↔ Reached file CutShort
+  pub late-label : (refusalOf file ≡ 4) ↔ Reached file LateLabel
+  pub too-many : (refusalOf file ≡ 5) ↔ Reached file TooMany
+  pub bad-name : (refusalOf file ≡ 6) ↔ Reached file BadName
+  pub name-carried : (refusalOf file ≡ 7) ↔ Reached file NameCarried
+  pub no-such-label : (refusalOf file ≡ 8) ↔ Reached file NoSuchLabel
+  pub not-above : (refusalOf file ≡ 9) ↔ Reached file NotAbove
+  pub unplaced : (refusalOf file ≡ 10) ↔ Reached file Unplaced
+  -- "A policy that none of its own checks refuses is accepted."
+  pub accepted : Accepted file ↔ NoneRefuses file (labelsOf file) (pairCount file)
+  -- The answer for a file is that for its first 2,828 bytes.
+  pub front : policyOf file ≡ policyOf (take 2828 file)

@@ -1,0 +1,14 @@
+// Runs the vectors of FIPS 180-4 and RFC 4231 and the worked examples of document 01 that are run and not
+// proved, one line a case. What it has to write is in the file stdout.
+mod hashes;
+mod policies;
+mod print;
+
+fn main() {
+    hashes::hash_cases();
+    hashes::length_cases();
+    hashes::mac_cases();
+    hashes::long_key_cases();
+    policies::policy_cases();
+    policies::limit_cases();
+}

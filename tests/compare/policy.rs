@@ -1,0 +1,112 @@
+//! The policy file of document 01, read a second time: records, refusals 1 to 10, and the order.
+
+pub const MOST_LABELS: usize = 64;
+pub const MOST_PAIRS: usize = 512;
+
+/// A policy that was read: names, counts and pairs in file order.
+#[derive(Clone, Debug, Default, PartialEq, Eq)]
+pub struct Policy {
+    pub names: Vec<[u8; 8]>,
+    pub counts: Vec<u16>,
+    pub pairs: Vec<(u8, u8)>,
+}
+
+/// Capital letters and digits, then padding spaces, and not spaces alone.
+pub fn well_formed(name: &[u8]) -> bool {
+    let text: Vec<u8> = name.iter().rev().copied().skip_while(|b| *b == b' ').collect();
+    !text.is_empty() && text.iter().all(|b| b.is_ascii_uppercase() || b.is_ascii_digit())
+}
+
+/// Reads a whole file, or gives the number of its refusal.
+pub fn read(file: &[u8]) -> Result<Policy, u8> {
+    if file.is_empty() {
+        return Err(1);
+    }
+    let mut policy = Policy::default();
+    let mut rest = file;
+    while !rest.is_empty() {
+        let length = match rest.get(0..2) {
+            Some(b"LB") => 12,
+            Some(b"OV") => 4,
+            _ => return Err(2),
+        };
+        if rest.len() < length {
+            return Err(3);
+        }
+        let (record, after) = rest.split_at(length);
+        if length == 12 {
+            read_label(&mut policy, record)?;
+        } else {
+            read_pair(&mut policy, record)?;
+        }
+        rest = after;
+    }
+    let lowers: Vec<u8> = policy.pairs.iter().map(|pair| pair.1).collect();
+    if (1..policy.names.len()).any(|label| !lowers.contains(&(label as u8))) {
+        return Err(10);
+    }
+    Ok(policy)
+}
+
+fn read_label(policy: &mut Policy, record: &[u8]) -> Result<(), u8> {
+    let name: [u8; 8] = record[2..10].try_into().unwrap();
+    if !policy.pairs.is_empty() {
+        return Err(4);
+    }
+    if policy.names.len() == MOST_LABELS {
+        return Err(5);
+    }
+    if !well_formed(&name) {
+        return Err(6);
+    }
+    if policy.names.contains(&name) {
+        return Err(7);
+    }
+    policy.names.push(name);
+    policy.counts.push(u16::from_be_bytes([record[10], record[11]]));
+    Ok(())
+}
+
+fn read_pair(policy: &mut Policy, record: &[u8]) -> Result<(), u8> {
+    let (upper, lower) = (record[2], record[3]);
+    if policy.pairs.len() == MOST_PAIRS {
+        return Err(5);
+    }
+    if upper.max(lower) as usize >= policy.names.len() {
+        return Err(8);
+    }
+    if upper >= lower {
+        return Err(9);
+    }
+    policy.pairs.push((upper, lower));
+    Ok(())
+}
+
+impl Policy {
+    /// The file that holds this policy.
+    pub fn to_bytes(&self) -> Vec<u8> {
+        let mut file = Vec::new();
+        for (name, count) in self.names.iter().zip(&self.counts) {
+            file.extend_from_slice(b"LB");
+            file.extend_from_slice(name);
+            file.extend_from_slice(&count.to_be_bytes());
+        }
+        for (upper, lower) in &self.pairs {
+            file.extend_from_slice(&[b'O', b'V', *upper, *lower]);
+        }
+        file
+    }
+
+    /// Whether a chain of pairs leads down from `upper` to `lower`, or they are the same: a search from
+    /// `upper` downwards.
+    pub fn at_or_below(&self, lower: usize, upper: usize) -> bool {
+        let mut seen = vec![false; self.names.len()];
+        let mut open = vec![upper];
+        while let Some(label) = open.pop() {
+            if !std::mem::replace(&mut seen[label], true) {
+                open.extend(self.pairs.iter().filter(|p| p.0 as usize == label).map(|p| p.1 as usize));
+            }
+        }
+        seen[lower]
+    }
+}

@@ -1,0 +1,85 @@
+#!/usr/bin/env python3
+"""Prints what the program `vectors` has to write, from sources that know nothing of the project: the digests
+that FIPS 180-4's examples and RFC 4231 give, Python's hashlib and hmac for the other messages, and document 01.
+
+python3 tests/vectors.py > crates/vectors/stdout
+"""
+import hashlib
+import hmac
+
+# The standards' own values; hashlib has to agree with each.
+GIVEN = {
+    "sha256 of nothing": "e3b0c44298fc1c149afbf4c8996fb92427ae41e4649b934ca495991b7852b855",
+    "sha256 of abc": "ba7816bf8f01cfea414140de5dae2223b00361a396177a9cb410ff61f20015ad",
+    "sha256 of 448 bits": "248d6a61d20638b8e5c026930c3e6039a33ce45964ff2167f6ecedd419db06c1",
+    "sha256 of 896 bits": "cf5b16a778af8380036ce59e7b0492370b249b11e8f07a51afac45037afee9d1",
+    "RFC 4231 case 1": "b0344c61d8db38535ca8afceaf0bf12b881dc200c9833da726e9376c2e32cff7",
+    "RFC 4231 case 2": "5bdcc146bf60754e6a042426089575c75a003f089d2739839dec58b964ec3843",
+    "RFC 4231 case 3": "773ea91e36800e46854db8ebd09181a72959098b3ef8c122d9635514ced565fe",
+    "RFC 4231 case 4": "82558a389a443c0ea4cc819899f2083a85f0faa3e578f8077a2e3ff46729665b",
+    "RFC 4231 case 5, 128 bits": "a3b6167473100ee06e0c796c2955552b",
+    "RFC 4231 case 6": "60e431591ee0b67f0d8a26aacbf5b77f8e0bc6213728c5140546040f0ee37f54",
+    "RFC 4231 case 7": "9b09ffa71b942fcb27635fbcd5b0e944bfdc63644f0713938a7f51535c3a35e2",
+}
+
+LIMIT = 65_536
+
+
+def line(name, value):
+    if name in GIVEN and GIVEN[name] != value:
+        raise SystemExit(f"{name}: {value} is not what the standard gives")
+    print(f"{name}: {value}")
+
+
+def sha(name, message):
+    line(name, hashlib.sha256(message).hexdigest() if len(message) <= LIMIT else "REFUSED 21")
+
+
+def mac(name, key, message, digits=64):
+    refused = len(key) > LIMIT or len(message) > LIMIT
+    line(name, "REFUSED 21" if refused else hmac.new(key, message, "sha256").hexdigest()[:digits])
+
+
+sha("sha256 of nothing", b"")
+sha("sha256 of abc", b"abc")
+sha("sha256 of 448 bits", b"abcdbcdecdefdefgefghfghighijhijkijkljklmklmnlmnomnopnopq")
+sha(
+    "sha256 of 896 bits",
+    b"abcdefghbcdefghicdefghijdefghijkefghijklfghijklmghijklmnhijklmno"
+    b"ijklmnopjklmnopqklmnopqrlmnopqrsmnopqrstnopqrstu",
+)
+for length in (55, 56, 63, 64, 65, 119, 120, LIMIT, LIMIT + 1):
+    sha(f"sha256 of {length} a", b"a" * length)
+
+mac("RFC 4231 case 1", b"\x0b" * 20, b"Hi There")
+mac("RFC 4231 case 2", b"Jefe", b"what do ya want for nothing?")
+mac("RFC 4231 case 3", b"\xaa" * 20, b"\xdd" * 50)
+mac("RFC 4231 case 4", bytes(range(1, 26)), b"\xcd" * 50)
+mac("RFC 4231 case 5, 128 bits", b"\x0c" * 20, b"Test With Truncation", 32)
+mac("RFC 4231 case 6", b"\xaa" * 131, b"Test Using Larger Than Block-Size Key - Hash Key First")
+mac(
+    "RFC 4231 case 7",
+    b"\xaa" * 131,
+    b"This is a test using a larger than block-size key and a larger than block-size data. "
+    b"The key needs to be hashed before being used by the HMAC algorithm.",
+)
+mac("hmac of 65536 a", b"key", b"a" * LIMIT)
+mac("hmac of 65537 a", b"key", b"a" * (LIMIT + 1))
+mac("hmac with a key of 65536 a", b"a" * LIMIT, b"message")
+mac("hmac with a key of 65537 a", b"a" * (LIMIT + 1), b"message")
+
+# Document 01, "Checked by hand", and its limits.
+for name, answer in (
+    ("empty policy", "REFUSED 1"),
+    ("one label", "1 labels, 0 pairs"),
+    ("one label, cut", "REFUSED 3"),
+    ("E", "4 labels, 4 pairs"),
+    ("E without its last two pairs", "REFUSED 10"),
+    ("E with the pair 3-3", "REFUSED 9"),
+    ("E with the pair 3-4", "REFUSED 8"),
+    ("64 labels, each paired below the top", "64 labels, 63 pairs"),
+    ("65 labels, each paired below the top", "REFUSED 5"),
+    ("64 labels and 512 pairs", "64 labels, 512 pairs"),
+    ("64 labels and 513 pairs", "REFUSED 5"),
+):
+    line(name, answer)

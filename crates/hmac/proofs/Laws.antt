@@ -1,5 +1,4 @@
 -- An HMAC has 32 elements, and each is a byte.
--- Assumes nothing.
 use mathlib.Core.Path.{_≡_}
 use mathlib.Core.List.{List, _++_}
 use Prim.Native.Nat.{ℕ}

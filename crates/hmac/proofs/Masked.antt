@@ -1,5 +1,4 @@
 -- A block with each byte masked: its length, and one turn of the loop that makes it.
--- Assumes nothing.
 use mathlib.Core.Path.{_≡_, sym, ap, _∙_}
 use mathlib.Core.List.{List, [], _∷_, _++_, map-append}
 use Prim.Native.Nat.{ℕ, _+_, _<_}

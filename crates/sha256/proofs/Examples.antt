@@ -1,5 +1,4 @@
 -- A worked example: the hash of "abc" (FIPS 180-4, the example of a one-block message).
--- Assumes nothing.
 use mathlib.Core.Path.{_≡_, refl}
 use mathlib.Core.List.{List, [], _∷_}
 use Prim.Native.Nat.{ℕ}

@@ -1,5 +1,4 @@
 -- The bytes of a hash value: their number, and one turn of the loop that writes them.
--- Assumes nothing.
 use mathlib.Core.Path.{_≡_, refl, sym}
 use mathlib.Core.List.{List}
 use Prim.Native.Nat.{ℕ, zero, suc, _+_, _*_, _<_}

@@ -2,7 +2,7 @@
 -- smallest sufficient set) equals the fewest keys of any tree with any sufficient sets, exactly when every label under the top hangs from
 -- a parent of least weight. The plan's tree hangs so and its total is the fewest; an offered tree gets its own total, and a yes exactly
 -- when the two are equal."
--- An accepted policy gives the number n of labels, their accounts count, and the order R with its test le. Assumes nothing.
+-- An accepted policy gives the number n of labels, their accounts count, and the order R with its test le.
 use Prim.Native.Nat.{ℕ, _+_, _≤_, _<_}
 use mathlib.Core.Path.{_≡_, sym, subst}
 use mathlib.Core.Logic.{_≢_, _↔_}

@@ -1,5 +1,4 @@
 -- Document 01's worked policies, computed, and the whole demand at policy E: its fewest is 17.
--- Assumes nothing.
 use Prim.Native.Nat.{ℕ, zero, suc, _<_}
 use mathlib.Core.Path.{_≡_, refl}
 use mathlib.Core.Logic.{_⊎_, inl, inr}

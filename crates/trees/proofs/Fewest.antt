@@ -1,5 +1,5 @@
 -- A tree's total is the fewest keys exactly when each label under the top hangs from a parent of least weight; the plan's tree hangs so.
--- (003: Theorem 3) Assumes nothing.
+-- (003: Theorem 3)
 use Prim.Native.Nat.{ℕ, _≤_, _<_}
 use mathlib.Core.Path.{_≡_, sym, subst}
 use mathlib.Core.Logic.{_≢_, _↔_}

@@ -1,5 +1,4 @@
 -- Answers of tests, and lists of numbers without repetition. Nothing here is about trees.
--- Assumes nothing.
 use Prim.Native.Nat.{ℕ, suc, _≤_, zero-le}
 use mathlib.Core.Path.{_≡_, refl, ap, sym, _∙_}
 use mathlib.Core.Logic.{_⊎_, inl, inr, _≢_}

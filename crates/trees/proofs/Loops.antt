@@ -1,6 +1,6 @@
 -- One turn of the loops that weigh a parent, find a smallest set and add up a total: what each test's answer does to the result so far.
 -- So too `inSmallest-top` and `inSmallest-cut` of `Smallest.antt`, and, for the loop that chooses a parent, `best-take`, `best-keep` and `best-pass`
--- of `Ties.antt`. Assumes nothing.
+-- of `Ties.antt`.
 use Prim.Native.Nat.{ℕ, suc, _+_, _*_}
 use mathlib.Core.Path.{_≡_, refl}
 use mathlib.Core.Logic.{_≢_}

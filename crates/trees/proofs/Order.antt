@@ -1,5 +1,4 @@
 -- The order's test and the order that is meant, used one for the other; the top among the labels.
--- Assumes nothing.
 use Prim.Native.Nat.{ℕ, _≤_, _<_}
 use mathlib.Core.Path.{_≡_, sym}
 use mathlib.Core.Logic.{_⊎_, inl, inr, _≢_, _↔_}

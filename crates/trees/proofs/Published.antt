@@ -1,5 +1,5 @@
 -- Document 003's statements, in its own words, for the definitions of `specs/`: Definitions 1 and 2, φ_E, γ and Theorem 2.
--- Lemmas 2 and 3 are `smallest-sufficient` and `smallest-within` of `Smallest.antt`, Theorem 3 is `plan-fewest` of `Fewest.antt`. Assumes nothing.
+-- Lemmas 2 and 3 are `smallest-sufficient` and `smallest-within` of `Smallest.antt`, Theorem 3 is `plan-fewest` of `Fewest.antt`.
 use Prim.Native.Nat.{ℕ, zero, suc, _+_, _*_, _<_}
 use mathlib.Core.Path.{_≡_, refl, ap, sym, _∙_, subst}
 use mathlib.Core.Logic.{_⊎_, inl, inr, _≢_, _↔_}

@@ -1,5 +1,4 @@
 -- The smallest set is sufficient and lies in every sufficient set, so that none is shorter. (003: Lemmas 2 and 3)
--- Assumes nothing.
 use Prim.Native.Nat.{ℕ, zero, suc, _≤_, _<_}
 use mathlib.Core.Path.{_≡_}
 use mathlib.Core.Logic.{_⊎_, inl, inr, _≢_}

@@ -1,5 +1,5 @@
 -- Weights, smallest sets, totals, the plan and the answers depend on counts, order and parents of labels below n alone: what a table gives
--- past its labels does not matter. Assumes nothing.
+-- past its labels does not matter.
 use Prim.Native.Nat.{ℕ, zero, suc, _*_, _≤_, _<_}
 use mathlib.Core.Path.{_≡_, refl, ap, ap₂, sym, _∙_, subst}
 use mathlib.Core.Logic.{_⊎_, inl, inr, _≢_}

@@ -1,5 +1,5 @@
 -- The plan's rule: a strictly higher label of least weight and, of several, the one with the lowest number. Theorems use these two laws,
--- `leastParent-least` and `leastParent-lowest`; code that chooses uses the laws of one turn, `best-take`, `best-keep` and `best-pass`. Assumes nothing.
+-- `leastParent-least` and `leastParent-lowest`; code that chooses uses the laws of one turn, `best-take`, `best-keep` and `best-pass`.
 use Prim.Native.Nat.{ℕ, zero, suc, _≤_, _<_}
 use mathlib.Core.Path.{_≡_}
 use mathlib.Core.Logic.{_⊎_, inl, inr, _≢_}

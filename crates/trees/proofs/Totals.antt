@@ -1,5 +1,5 @@
 -- A tree's total is the top's accounts plus the weights of all parents (003: Theorem 2), is enough under that tree, and no assignment
--- under it needs fewer. Assumes nothing.
+-- under it needs fewer.
 use Prim.Native.Nat.{ℕ, _+_, _*_, _≤_, _<_}
 use mathlib.Core.Path.{_≡_, refl, ap, ap₂, sym, _∙_}
 use mathlib.Core.Logic.{_⊎_, inl, inr, _≢_}

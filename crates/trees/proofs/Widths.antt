@@ -1,5 +1,5 @@
 -- With at most 64 labels and at most 65,535 accounts at each: a size is at most 64, a weight is below 2 ^ 22 and a total below 2 ^ 28, and so
--- is each of them as far as a loop has come (k labels). Assumes nothing.
+-- is each of them as far as a loop has come (k labels).
 use Prim.Native.Nat.{ℕ, _*_, _^_, _≤_, _<_}
 use mathlib.Core.Bool.{Bool}
 use native.Mathlib.Nat.{le-trans, mul-le-mul, le-refl}

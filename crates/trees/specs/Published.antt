@@ -1,4 +1,4 @@
--- Document 003's own words for what `Trees.antt` says: arcs and directed paths of a derivation out-tree, and Definition 2. Assumes nothing.
+-- Document 003's own words for what `Trees.antt` says: arcs and directed paths of a derivation out-tree, and Definition 2.
 use Prim.Native.Nat.{ℕ, _<_}
 use mathlib.Core.Path.{_≡_}
 use mathlib.Core.Logic.{_≢_}

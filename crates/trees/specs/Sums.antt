@@ -1,5 +1,4 @@
 -- Sums, conditional sums and selections over the numbers below n, each by recursion on n, as a loop that counts up makes them.
--- Assumes nothing.
 use Prim.Native.Nat.{ℕ, zero, suc, _+_}
 use mathlib.Core.Bool.{Bool, cond}
 use mathlib.Core.List.{List, [], _∷_, _++_}

@@ -1,6 +1,6 @@
 -- What document 01, "Tree, weights and key sets", means by derivation trees, sufficient sets and the fewest keys.
 -- n is the number of labels, count l the number of accounts at label l, and R m l says that label m is at or below label l.
--- Nothing here speaks of a table, a weight or a smallest set. Document 003 is cited by its own numbers. Assumes nothing.
+-- Nothing here speaks of a table, a weight or a smallest set. Document 003 is cited by its own numbers.
 use Prim.Native.Nat.{ℕ, _≤_, _<_}
 use mathlib.Core.Path.{_≡_}
 use mathlib.Core.Logic.{_≢_, _↔_}

@@ -1,5 +1,5 @@
 -- Weights, smallest sets, totals and the plan as document 01, "Tree, weights and key sets", has them computed, over a test of the order:
--- le m l answers whether label m is at or below label l. Document 003 is cited by its own numbers. Assumes nothing.
+-- le m l answers whether label m is at or below label l. Document 003 is cited by its own numbers.
 use Prim.Native.Nat.{ℕ, zero, suc, _*_, _≤_, _<_}
 use mathlib.Core.Logic.{_≢_}
 use mathlib.Core.Bool.{Bool, cond, not, _&&_, _||_}

@@ -5,7 +5,7 @@ use crate::print::digest_part;
 use hmac::hmac_sha256;
 use sha256::sha256;
 
-pub fn hash_cases() {
+pub(crate) fn hash_cases() {
     digest(b"sha256 of nothing", sha256(b""));
     digest(b"sha256 of abc", sha256(b"abc"));
     digest(
@@ -21,7 +21,7 @@ pub fn hash_cases() {
 }
 
 // Messages of a's.
-pub fn length_cases() {
+pub(crate) fn length_cases() {
     digest(b"sha256 of 55 a", sha256(&[b'a'; 55]));
     digest(b"sha256 of 56 a", sha256(&[b'a'; 56]));
     digest(b"sha256 of 63 a", sha256(&[b'a'; 63]));
@@ -33,7 +33,7 @@ pub fn length_cases() {
     digest(b"sha256 of 65537 a", sha256(&[b'a'; 65537]));
 }
 
-pub fn mac_cases() {
+pub(crate) fn mac_cases() {
     digest(b"RFC 4231 case 1", hmac_sha256(&[0x0b; 20], b"Hi There"));
     digest(
         b"RFC 4231 case 2",
@@ -43,33 +43,7 @@ pub fn mac_cases() {
     digest(
         b"RFC 4231 case 4",
         hmac_sha256(
-            &[
-                1,
-                2,
-                3,
-                4,
-                5,
-                6,
-                7,
-                8,
-                9,
-                10,
-                11,
-                12,
-                13,
-                14,
-                15,
-                16,
-                17,
-                18,
-                19,
-                20,
-                21,
-                22,
-                23,
-                24,
-                25,
-            ],
+            b"\x01\x02\x03\x04\x05\x06\x07\x08\x09\x0a\x0b\x0c\x0d\x0e\x0f\x10\x11\x12\x13\x14\x15\x16\x17\x18\x19",
             &[0xcd; 50],
         ),
     );
@@ -81,7 +55,7 @@ pub fn mac_cases() {
 }
 
 // Keys longer than a block, and keys and messages about the limit.
-pub fn long_key_cases() {
+pub(crate) fn long_key_cases() {
     digest(
         b"RFC 4231 case 6",
         hmac_sha256(

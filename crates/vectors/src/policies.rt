@@ -2,7 +2,7 @@
 use crate::print::policy_sizes;
 use policy::read_policy;
 
-pub fn policy_cases() {
+pub(crate) fn policy_cases() {
     policy_sizes(b"empty policy", read_policy(b""));
     policy_sizes(b"one label", read_policy(b"LBSUITE   \x00\x07"));
     policy_sizes(b"one label, cut", read_policy(b"LBSUITE   \x00"));
@@ -88,7 +88,7 @@ fn read_wide(name: &[u8], labels: u8, pairs: u16) {
     read_start(name, file, 12 * (labels as usize) + 4 * (pairs as usize));
 }
 
-pub fn limit_cases() {
+pub(crate) fn limit_cases() {
     read_wide(b"64 labels, each paired below the top", 64, 63);
     read_wide(b"65 labels, each paired below the top", 65, 64);
     read_wide(b"64 labels and 512 pairs", 64, 512);

@@ -24,7 +24,7 @@ fn hexadecimal(bytes: [u8; 32], count: usize) {
 }
 
 // The case's name, and as many bytes of the digest as the source of the vector gives.
-pub fn digest_part(name: &[u8], d: Digest, count: usize) {
+pub(crate) fn digest_part(name: &[u8], d: Digest, count: usize) {
     io::write_all(1, name);
     io::write_all(1, b": ");
     if d.refusal == 0 {
@@ -36,12 +36,12 @@ pub fn digest_part(name: &[u8], d: Digest, count: usize) {
     io::write_all(1, b"\n");
 }
 
-pub fn digest(name: &[u8], d: Digest) {
+pub(crate) fn digest(name: &[u8], d: Digest) {
     digest_part(name, d, 32);
 }
 
 // The case's name, and the sizes of the policy or its refusal.
-pub fn policy_sizes(name: &[u8], p: Policy) {
+pub(crate) fn policy_sizes(name: &[u8], p: Policy) {
     io::write_all(1, name);
     io::write_all(1, b": ");
     if p.refusal == 0 {

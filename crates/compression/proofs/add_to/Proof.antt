@@ -1,5 +1,4 @@
 -- `compression::add_to` meets its contract.
--- Assumes nothing.
 use borrow.Author.Needs.{needs}
 use Rattle.compression.proofs.add_to.Statement.{statement}
 use Rattle.compression.proofs.add_to.Tie as tie

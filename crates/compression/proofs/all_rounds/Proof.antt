@@ -1,5 +1,4 @@
 -- `compression::all_rounds` meets its contract.
--- Assumes nothing.
 use mathlib.Core.Path.{refl, _≡_}
 use Prim.Native.Nat.{_≤_, _-_, _%_}
 use native.Mathlib.Omega.{arith}

@@ -1,5 +1,4 @@
 -- `compression::compress` meets its contract.
--- Assumes nothing.
 use mathlib.Core.Path.{_≡_, refl}
 use lib.ListN.{replicate, drop, take}
 use borrow.Author.Needs.{needs}

@@ -1,5 +1,4 @@
 -- `compression::extend` meets its contract. The invariant: the words of the schedule up to `t` are stored.
--- Assumes nothing.
 use mathlib.Core.Path.{sym, _≡_}
 use mathlib.Core.List.{_++_}
 use Prim.Native.Nat.{_≤_, _-_, _+_}

@@ -1,5 +1,4 @@
 -- `compression::initial_value` meets its contract.
--- Assumes nothing.
 use mathlib.Core.Path.{refl}
 use Rattle.compression.specs.Compression.{initial}
 use Rattle.compression.proofs.initial_value.Statement.{statement}

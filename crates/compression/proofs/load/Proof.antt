@@ -1,5 +1,4 @@
 -- `compression::load` meets its contract. The invariant: the words of the block up to `t` are stored, the rest of `w` is as it was.
--- Assumes nothing.
 use mathlib.Core.Path.{refl, _≡_}
 use mathlib.Core.List.{_++_}
 use Prim.Native.Nat.{_≤_, _-_, _+_}

@@ -1,5 +1,4 @@
 -- `compression::round` meets its contract.
--- Assumes nothing.
 use borrow.Author.Needs.{needs}
 use Rattle.compression.specs.Compression.{roundOf}
 use Rattle.compression.proofs.round.Statement.{statement}

@@ -1,5 +1,4 @@
 -- `compression::temp1` meets its contract.
--- Assumes nothing.
 use borrow.Author.Needs.{needs}
 use Rattle.compression.proofs.temp1.Statement.{statement}
 use Rattle.compression.proofs.temp1.Tie as tie

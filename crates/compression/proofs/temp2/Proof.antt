@@ -1,5 +1,4 @@
 -- `compression::temp2` meets its contract.
--- Assumes nothing.
 use borrow.Author.Needs.{needs}
 use Rattle.compression.proofs.temp2.Statement.{statement}
 use Rattle.compression.proofs.temp2.Tie as tie

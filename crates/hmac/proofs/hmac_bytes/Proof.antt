@@ -1,5 +1,4 @@
 -- `hmac::hmac_bytes` meets its contract.
--- Assumes nothing.
 use borrow.Author.Needs.{needs}
 use Rattle.hmac.specs.Hmac.{hmac}
 use Rattle.hmac.proofs.hmac_bytes.Statement.{statement}

@@ -1,5 +1,4 @@
 -- `hmac::hmac_sha256` meets its contract.
--- Assumes nothing.
 use native.Mathlib.Omega.{arith}
 use lib.ListN.{length}
 use borrow.Author.Tests.{lt-ltb, le-ltb}

@@ -1,5 +1,4 @@
 -- `hmac::key_block` meets its contract.
--- Assumes nothing.
 use mathlib.Core.Path.{ap, _∙_}
 use mathlib.Core.List.{List}
 use Prim.Native.Nat.{ℕ}

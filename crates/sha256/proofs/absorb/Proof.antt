@@ -1,5 +1,4 @@
 -- `sha256::absorb` meets its contract. The invariant: the hash value is that after `i` blocks.
--- Assumes nothing.
 use mathlib.Core.Path.{_∙_, refl, _≡_}
 use Prim.Native.Nat.{_≤_, _-_, _+_, _*_, _/_}
 use native.Mathlib.Omega.{arith}

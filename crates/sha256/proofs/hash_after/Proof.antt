@@ -1,5 +1,4 @@
 -- `sha256::hash_after` meets its contract.
--- Assumes nothing.
 use mathlib.Core.Path.{_∙_, sym}
 use borrow.Author.Needs.{needs}
 use Rattle.sha256.proofs.Chain.{hash-after-block}

@@ -1,5 +1,4 @@
 -- `words::big_sigma0` meets its contract.
--- Assumes nothing.
 use borrow.Author.Needs.{needs}
 use Rattle.words.specs.Words.{bigSigma0}
 use Rattle.words.proofs.big_sigma0.Statement.{statement}

@@ -1,5 +1,4 @@
 -- `words::big_sigma1` meets its contract.
--- Assumes nothing.
 use borrow.Author.Needs.{needs}
 use Rattle.words.specs.Words.{bigSigma1}
 use Rattle.words.proofs.big_sigma1.Statement.{statement}

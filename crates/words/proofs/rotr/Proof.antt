@@ -1,5 +1,4 @@
 -- `words::rotr` meets its contract.
--- Assumes nothing.
 use mathlib.Core.Path.{refl}
 use borrow.Author.Needs.{needs}
 use Rattle.words.specs.Words.{rotr}

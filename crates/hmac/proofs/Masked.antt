@@ -7,8 +7,8 @@ use native.Mathlib.Omega.{arith}
 use lib.Bits.{bitXor}
 use lib.ListN.{length, getD, set, take, length-map}
 use lib.Seq.{take-suc, length-take-le}
-use Rattle.sha256.specs.Buffer.{zeroFilled}
-use Rattle.sha256.proofs.Pasted.{stored-next}
+use Rattle.lists.specs.Buffer.{zeroFilled}
+use Rattle.lists.proofs.Pasted.{stored-next}
 use Rattle.hmac.specs.Hmac.{masked}
 
 pub masked-length : (pad : ℕ) (b : List ℕ) → length (masked pad b) ≡ length b

@@ -5,7 +5,7 @@ use Prim.Native.Nat.{ℕ}
 use lib.Bits.{bitXor}
 use lib.Dec.{leb}
 use lib.ListN.{length}
-use Rattle.sha256.specs.Buffer.{zeroFilled}
+use Rattle.lists.specs.Buffer.{zeroFilled}
 use Rattle.sha256.specs.Sha256.{hash}
 
 -- K0: the key, or its hash if it is longer than a block, with zeros behind it up to 64 bytes (table 1, steps 1 to 3)

@@ -3,7 +3,7 @@ use sha256::Digest;
 ghost use mathlib.Core.Path.{_≡_};
 ghost use Prim.Native.Nat.{_≤_};
 ghost use lib.ListN.{length};
-ghost use Rattle.sha256.specs.Buffer.{zeroFilled};
+ghost use Rattle.lists.specs.Buffer.{zeroFilled};
 ghost use Rattle.hmac.specs.Hmac.{keyBlock, masked, hmac};
 ghost use Rattle.hmac.specs.HmacAnswer.{hmacOf};
 

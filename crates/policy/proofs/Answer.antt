@@ -6,7 +6,7 @@ use lib.ListN.{length, getD, take}
 use Rattle.order.specs.Table.{orderTable}
 use Rattle.policy.specs.File.{countOf, pairAt}
 use Rattle.policy.specs.Whole.{labelsOf, pairCount, pairsOf, orderOf, noPair, policyOf}
-use Rattle.policy.proofs.Lists.{length-filled, take-filled, getD-filled, getD-past}
+use Rattle.lists.proofs.Tables.{length-filled, take-filled, getD-filled, getD-past}
 use Rattle.policy.proofs.Verdict.{bounds}
 
 module _ (file : List ℕ) where

@@ -9,7 +9,7 @@ use native.Mathlib.Omega.{arith}
 use borrow.Author.Tests.{eq-eqb, ne-eqb, eqb-true, eqb-false}
 use lib.Dec.{eqb}
 use lib.ListN.{length}
-use Rattle.policy.proofs.Lists.{some-at, some-below, every-all, every-miss}
+use Rattle.lists.proofs.Tables.{some-at, some-below, every-all, every-miss}
 use Rattle.policy.proofs.Meaning.{Means, is-end, is-refused, is-label, is-over, meaning, kind-of}
 use Rattle.policy.proofs.Passing.{labels-bound, pairs-bound, place-within}
 use Rattle.policy.specs.File.{pairAt}

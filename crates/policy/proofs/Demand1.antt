@@ -11,7 +11,7 @@ use Rattle.policy.proofs.Answered.{scan-answered, answered, answered-on
 use Rattle.policy.proofs.Passing.{place-within}
 use Rattle.policy.proofs.Verdict.{row-number, policyFrom, number-of, refusal-row}
 use Rattle.policy.specs.Rows.{NoMark, CutShort, LateLabel, TooMany, BadName, NameCarried, NoSuchLabel, NotAbove, Unplaced, RefusedAt, row-2, row-3, row-4, row-5, row-6, row-7, row-8, row-9, start, NoneRefuses, Reached, Answered, refusedPolicy, empty, at-record, at-end, read}
-use Rattle.policy.specs.Tables.{listed}
+use Rattle.lists.specs.Tables.{listed}
 use Rattle.policy.specs.Whole.{refused, accepted, scanFrom, scanned, refusalOf, labelsOf, pairCount, Accepted, policyOf}
 use Rattle.policy.specs.declared.Scan.{Scan}
 

@@ -8,7 +8,7 @@ use Rattle.format.specs.Names.{classOf, padding, formed, someNoSpace, wellForme
 use Rattle.format.specs.Search.{firstFrom}
 use Rattle.policy.specs.File.{nameOf, countOf, pairAt, isNamed, labelNamed}
 use Rattle.policy.specs.Record.{labelKind, overKind, markedKind, kindAt}
-use Rattle.policy.specs.Tables.{someBelow, everyBelow}
+use Rattle.lists.specs.Tables.{someBelow, everyBelow}
 use Rattle.policy.specs.Whole.{isLowerOf, isLower, isPlaced, atEnd, scanFrom, scanned, refusalOf}
 
 -- an `LB` record from its name and count, an `OV` record from its two numbers

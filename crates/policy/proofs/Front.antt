@@ -13,13 +13,14 @@ use lib.Seq.{length-take-le, take-all}
 use Rattle.format.specs.Bytes.{sameBytes}
 use Rattle.format.specs.Marks.{LB, OV}
 use Rattle.policy.proofs.Answered.{started}
-use Rattle.policy.proofs.Listed.{first-same, listed-same, front-bytes}
+use Rattle.lists.proofs.Listed.{listed-same}
+use Rattle.policy.proofs.Searches.{first-same, front-bytes}
 use Rattle.policy.proofs.Meaning.{Means, is-end, is-refused, is-label, is-over, meaning, kind-of, marked}
 use Rattle.policy.proofs.Verdict.{policyFrom, bounds}
 use Rattle.policy.specs.File.{placeOf, nameOf, countOf, pairAt, isNamed, labelNamed}
 use Rattle.policy.specs.Record.{labelKind, overKind, markedKind, kindAt}
 use Rattle.policy.specs.Rows.{bytesLeft, markOf}
-use Rattle.policy.specs.Tables.{listed}
+use Rattle.lists.specs.Tables.{listed}
 use Rattle.policy.specs.Whole.{onKind, scanFrom, scanned, labelsOf, pairCount, pairsOf, policyOf}
 use Rattle.policy.specs.declared.Kind.the-variants.{Refused}
 use Rattle.policy.specs.declared.Kind.{Kind}

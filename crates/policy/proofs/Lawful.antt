@@ -6,11 +6,11 @@ use native.Mathlib.Omega.{arith}
 use lib.ListN.{length, getD, length-take, length-drop}
 use Rattle.format.specs.Form.{NameForm}
 use Rattle.policy.proofs.Demand1.{accepted-iff, accepted-length}
-use Rattle.policy.proofs.Lists.{length-listed, getD-listed}
+use Rattle.lists.proofs.Tables.{length-listed, getD-listed}
 use Rattle.policy.proofs.Passing.{labels-bound, pairs-bound, label-passed, over-passed}
 use Rattle.policy.specs.File.{placeOf, nameOf, countOf, pairAt}
 use Rattle.policy.specs.Rows.{LowerOf, NoneRefuses, Passes}
-use Rattle.policy.specs.Tables.{listed}
+use Rattle.lists.specs.Tables.{listed}
 use Rattle.policy.specs.Whole.{labelsOf, pairCount, Accepted, pairsOf, noPair}
 
 -- what holds of an accepted policy

@@ -1,5 +1,4 @@
-pub mod Lists
-pub mod Listed
+pub mod Searches
 pub mod Names
 pub mod OneRecord
 pub mod Meaning

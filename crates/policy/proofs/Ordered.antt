@@ -9,7 +9,7 @@ use Rattle.order.specs.Order.{AtOrBelow, Proper, Topped}
 use Rattle.order.specs.Table.{atOrBelow}
 use Rattle.order.specs.declared.Pair.{Pair}
 use Rattle.policy.proofs.Demand1.{accepted-iff}
-use Rattle.policy.proofs.Listed.{listed-mem, mem-listed}
+use Rattle.lists.proofs.Listed.{listed-mem, mem-listed}
 use Rattle.policy.proofs.Passing.{labels-bound, over-passed}
 use Rattle.policy.specs.File.{pairAt}
 use Rattle.policy.specs.Rows.{OverAt}

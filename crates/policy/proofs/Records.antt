@@ -10,7 +10,7 @@ use Rattle.order.specs.declared.Pair.{Pair}
 use Rattle.policy.proofs.Meaning.{label-iff, over-iff}
 use Rattle.policy.specs.File.{placeOf}
 use Rattle.policy.specs.Record.{kindAt, withName, recordAt}
-use Rattle.policy.specs.Tables.{everyBelow}
+use Rattle.lists.specs.Tables.{everyBelow}
 use Rattle.policy.specs.Whole.{refused, isLower, isPlaced, atEnd, scanFrom, scanned}
 use Rattle.policy.specs.declared.Kind.the-variants.{Label, Over, End, Refused}
 use Rattle.policy.specs.declared.Record.{Record}

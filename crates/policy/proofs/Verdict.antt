@@ -9,7 +9,7 @@ use Rattle.policy.proofs.Answered.{answered, answered-only}
 use Rattle.policy.proofs.Passing.{labels-bound, pairs-bound, place-within}
 use Rattle.policy.specs.File.{placeOf, countOf, pairAt}
 use Rattle.policy.specs.Rows.{RefusedAt, row-2, row-3, row-4, row-5, row-6, row-7, row-8, row-9, Reached, Answered, empty, at-record, at-end, read}
-use Rattle.policy.specs.Tables.{filled}
+use Rattle.lists.specs.Tables.{filled}
 use Rattle.policy.specs.Whole.{refusalOf, labelsOf, pairCount, noPair}
 use Rattle.policy.specs.declared.Policy.{Policy}
 use Rattle.policy.specs.declared.Scan.{Scan}

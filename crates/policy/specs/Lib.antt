@@ -1,4 +1,3 @@
-pub mod Tables
 pub mod File
 pub mod Record
 pub mod Whole

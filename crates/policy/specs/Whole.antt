@@ -9,7 +9,7 @@ use Rattle.order.specs.Table.{orderTable}
 use Rattle.order.specs.declared.Pair.{Pair}
 use Rattle.policy.specs.File.{countOf, pairAt}
 use Rattle.policy.specs.Record.{kindAt}
-use Rattle.policy.specs.Tables.{someBelow, everyBelow, listed, filled}
+use Rattle.lists.specs.Tables.{someBelow, everyBelow, listed, filled}
 use Rattle.policy.specs.declared.Kind.the-variants.{Label, Over, End, Refused}
 use Rattle.policy.specs.declared.Kind.{Kind}
 use Rattle.policy.specs.declared.Policy.{Policy}

@@ -6,7 +6,7 @@ use order::Pair;
 ghost use mathlib.Core.Path.{_≡_};
 ghost use Prim.Native.Nat.{_+_, _*_, _≤_};
 ghost use lib.ListN.{length};
-ghost use Rattle.policy.specs.Tables.{filled};
+ghost use Rattle.lists.specs.Tables.{filled};
 ghost use Rattle.policy.specs.File.{placeOf, countOf, pairAt, labelNamed};
 ghost use Rattle.policy.specs.Record.{unnamedOf, withName, labelKind, overKind, recordAt};
 ghost use Rattle.policy.specs.Whole.{isLower, atEnd, scanned, noPair, policyOf};

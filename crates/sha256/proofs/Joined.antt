@@ -5,9 +5,9 @@ use Prim.Native.Nat.{ℕ, zero, suc, _+_, _*_, _<_}
 use native.Mathlib.Numerals.{add-one}
 use native.Mathlib.Omega.{arith}
 use lib.ListN.{length, getD, length-append}
-use Rattle.sha256.specs.Buffer.{pasted, zeroFilled}
+use Rattle.lists.specs.Buffer.{pasted, zeroFilled}
 use Rattle.sha256.specs.Sha256.{wordBytes, joined}
-use Rattle.sha256.proofs.Pasted.{pasted-next}
+use Rattle.lists.proofs.Pasted.{pasted-next}
 
 pub word-bytes-length : (x : ℕ) → length (wordBytes x) ≡ 4
 unfolding wordBytes

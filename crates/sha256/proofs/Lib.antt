@@ -1,4 +1,3 @@
-pub mod Pasted
 pub mod Chain
 pub mod Joined
 pub mod Padding

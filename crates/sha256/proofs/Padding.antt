@@ -4,9 +4,9 @@ use mathlib.Core.List.{List, [], _∷_, _++_, append-assoc}
 use Prim.Native.Nat.{ℕ, _+_, _-_, _*_, _/_, _%_, _^_, _<_}
 use native.Mathlib.Omega.{arith}
 use lib.ListN.{length, set, take, drop, replicate, length-append, length-replicate}
-use Rattle.sha256.specs.Buffer.{pasted, zeroFilled}
+use Rattle.lists.specs.Buffer.{pasted, zeroFilled}
 use Rattle.sha256.specs.Sha256.{wordBytes, lengthBlock, zeroBytes, padding}
-use Rattle.sha256.proofs.Pasted.{copied, stored-next, pasted-next, pasted-behind}
+use Rattle.lists.proofs.Pasted.{copied, stored-next, pasted-next, pasted-behind}
 use Rattle.sha256.proofs.Joined.{word-bytes-length}
 
 -- section 5.1.1 in bits: l + 1 + k is 448 modulo 512, for k zero bits, seven of which stand in the byte 0x80; and k is below 512, so no smaller one is

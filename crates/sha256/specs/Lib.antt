@@ -1,3 +1,2 @@
-pub mod Buffer
 pub mod Sha256
 pub mod Digest

@@ -2,7 +2,7 @@
 ghost use mathlib.Core.Path.{_≡_};
 ghost use Prim.Native.Nat.{_+_, _/_, _%_, _^_, _≤_, _<_};
 ghost use lib.ListN.{length};
-ghost use Rattle.sha256.specs.Buffer.{pasted};
+ghost use Rattle.lists.specs.Buffer.{pasted};
 ghost use Rattle.sha256.specs.Sha256.{wordBytes};
 
 // The byte of x that stands n bits from its end.

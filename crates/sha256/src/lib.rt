@@ -5,7 +5,7 @@ ghost use mathlib.Core.Path.{_≡_};
 ghost use mathlib.Core.List.{_++_};
 ghost use Prim.Native.Nat.{_+_, _*_, _/_, _%_, _≤_, _<_};
 ghost use lib.ListN.{length};
-ghost use Rattle.sha256.specs.Buffer.{zeroFilled};
+ghost use Rattle.lists.specs.Buffer.{zeroFilled};
 ghost use Rattle.sha256.specs.Sha256.{zeroBytes, padding, chained, joined, digestFrom, hash};
 ghost use Rattle.sha256.specs.Digest.{tooLong, sha256Of};
 

@@ -4,7 +4,7 @@ use mathlib.Core.List.{List}
 use Prim.Native.Nat.{ℕ}
 use borrow.Author.Tests.{le-leb, lt-leb}
 use borrow.Author.Needs.{needs}
-use Rattle.sha256.specs.Buffer.{zeroFilled}
+use Rattle.lists.specs.Buffer.{zeroFilled}
 use Rattle.hmac.specs.Hmac.{keyBlock}
 use Rattle.hmac.proofs.key_block.Statement.{statement}
 use Rattle.hmac.proofs.key_block.Tie as tie

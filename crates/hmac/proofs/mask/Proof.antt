@@ -6,8 +6,8 @@ use lib.Seq.{take-all}
 use lib.ListN.{take, length}
 use borrow.Author.Needs.{needs}
 use Rattle.hmac.proofs.Masked.{masked-turn, masked-length}
-use Rattle.sha256.proofs.Pasted.{zero-filled-none, zero-filled-all}
-use Rattle.sha256.specs.Buffer.{zeroFilled}
+use Rattle.lists.proofs.Pasted.{zero-filled-none, zero-filled-all}
+use Rattle.lists.specs.Buffer.{zeroFilled}
 use Rattle.hmac.specs.Hmac.{masked}
 use Rattle.hmac.proofs.mask.Statement.{statement}
 use Rattle.hmac.proofs.mask.Tie as tie

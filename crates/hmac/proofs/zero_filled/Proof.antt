@@ -2,7 +2,7 @@
 use mathlib.Core.Path.{_∙_}
 use native.Mathlib.Omega.{arith}
 use borrow.Author.Needs.{needs}
-use Rattle.sha256.proofs.Pasted.{copied}
+use Rattle.lists.proofs.Pasted.{copied}
 use Rattle.hmac.proofs.zero_filled.Statement.{statement}
 use Rattle.hmac.proofs.zero_filled.Tie as tie
 

@@ -6,11 +6,11 @@ use native.Mathlib.Omega.{arith}
 use borrow.Author.Needs.{needs}
 use borrow.Author.Tests.{not-true, not-false}
 use denote.Ref.{now}
-use Rattle.policy.proofs.Lists.{every-more, every-miss, every-fewer}
+use Rattle.lists.proofs.Tables.{every-more, every-miss, every-fewer}
 use Rattle.policy.proofs.Records.{placed-top, placed-lower, unplaced}
 use Rattle.policy.proofs.at_end.Statement.{statement}
 use Rattle.policy.proofs.at_end.Tie as tie
-use Rattle.policy.specs.Tables.{everyBelow}
+use Rattle.lists.specs.Tables.{everyBelow}
 use Rattle.policy.specs.Whole.{isLower, isPlaced, atEnd}
 
 abbrev Inv-loop : tie.InvT-loop

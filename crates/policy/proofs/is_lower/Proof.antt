@@ -6,10 +6,10 @@ use native.Mathlib.Omega.{arith}
 use borrow.Author.Needs.{needs}
 use borrow.Author.Tests.{eq-eqb, ne-eqb}
 use denote.Ref.{now}
-use Rattle.policy.proofs.Lists.{none-below, none-more, some-at}
+use Rattle.lists.proofs.Tables.{none-below, none-more, some-at}
 use Rattle.policy.proofs.is_lower.Statement.{statement}
 use Rattle.policy.proofs.is_lower.Tie as tie
-use Rattle.policy.specs.Tables.{someBelow}
+use Rattle.lists.specs.Tables.{someBelow}
 use Rattle.policy.specs.Whole.{isLowerOf, isLower}
 
 abbrev Inv-loop : tie.InvT-loop

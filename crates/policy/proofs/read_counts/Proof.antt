@@ -3,11 +3,11 @@ use Prim.Native.Nat.{_-_, _≤_}
 use mathlib.Core.Path.{_≡_, refl}
 use native.Mathlib.Omega.{arith}
 use denote.Ref.{now}
-use Rattle.policy.proofs.Lists.{fill-more}
+use Rattle.lists.proofs.Tables.{fill-more}
 use Rattle.policy.proofs.read_counts.Statement.{statement}
 use Rattle.policy.proofs.read_counts.Tie as tie
 use Rattle.policy.specs.File.{countOf}
-use Rattle.policy.specs.Tables.{listed, filled}
+use Rattle.lists.specs.Tables.{listed, filled}
 
 abbrev Inv-loop : tie.InvT-loop
 Inv-loop policy labels counts₀ i₀ counts i = (i ≤ labels) × (counts ≡ filled 64 0 (countOf policy) i)

@@ -3,11 +3,11 @@ use Prim.Native.Nat.{_-_, _≤_}
 use mathlib.Core.Path.{_≡_, refl}
 use native.Mathlib.Omega.{arith}
 use denote.Ref.{now}
-use Rattle.policy.proofs.Lists.{fill-more}
+use Rattle.lists.proofs.Tables.{fill-more}
 use Rattle.policy.proofs.read_pairs.Statement.{statement}
 use Rattle.policy.proofs.read_pairs.Tie as tie
 use Rattle.policy.specs.File.{pairAt}
-use Rattle.policy.specs.Tables.{listed, filled}
+use Rattle.lists.specs.Tables.{listed, filled}
 use Rattle.policy.specs.Whole.{noPair}
 
 abbrev Inv-loop : tie.InvT-loop

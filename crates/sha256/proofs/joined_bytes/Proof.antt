@@ -5,8 +5,8 @@ use native.Mathlib.Omega.{arith}
 use lib.ListN.{length}
 use borrow.Author.Needs.{needs}
 use Rattle.sha256.proofs.Joined.{joined-length, joined-turn}
-use Rattle.sha256.proofs.Pasted.{zero-filled-none, zero-filled-all}
-use Rattle.sha256.specs.Buffer.{zeroFilled}
+use Rattle.lists.proofs.Pasted.{zero-filled-none, zero-filled-all}
+use Rattle.lists.specs.Buffer.{zeroFilled}
 use Rattle.sha256.specs.Sha256.{joined}
 use Rattle.sha256.proofs.joined_bytes.Statement.{statement}
 use Rattle.sha256.proofs.joined_bytes.Tie as tie

@@ -2,7 +2,7 @@
 use native.Mathlib.Omega.{arith}
 use lib.ListN.{length-set}
 use borrow.Author.Needs.{needs}
-use Rattle.sha256.proofs.Pasted.{pasted-four}
+use Rattle.lists.proofs.Pasted.{pasted-four}
 use Rattle.sha256.specs.Sha256.{wordBytes}
 use Rattle.sha256.proofs.buffer.put_word.Statement.{statement}
 use Rattle.sha256.proofs.buffer.put_word.Tie as tie

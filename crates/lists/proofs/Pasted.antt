@@ -7,7 +7,7 @@ use native.Mathlib.Numerals.{add-one}
 use native.Mathlib.Omega.{arith}
 use lib.ListN.{length, set, take, drop, replicate, length-append, length-replicate, replicate-append-replicate}
 use lib.Seq.{sets-eq, take-at, drop-at, take-length}
-use Rattle.sha256.specs.Buffer.{pasted, zeroFilled}
+use Rattle.lists.specs.Buffer.{pasted, zeroFilled}
 
 -- stores one behind the other are a paste
 pub pasted-one : (d : List ℕ) (at a : ℕ) → at + 1 ≤ length d → set d at a ≡ pasted d at (a ∷ [])

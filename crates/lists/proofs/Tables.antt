@@ -1,4 +1,4 @@
--- Laws of tests below a number and of lists by place. Nothing here is about policies.
+-- Laws of tests below a number and of lists by place.
 use Prim.Native.Nat.{ℕ, zero, suc, _+_, _-_, _≤_, _<_}
 use mathlib.Core.Bool.{Bool, true, false, or-true, or-false, not, _&&_, _||_, false≢true}
 use mathlib.Core.List.{[], _∷_}
@@ -9,7 +9,7 @@ use native.Mathlib.Numerals.{add-one}
 use native.Mathlib.Omega.{arith}
 use lib.ListN.{take, length-replicate, length, getD, set, replicate, length-append, List·getD-append}
 use lib.Seq.{take-at, getD-append-add, set-at, append-snoc, getD-at}
-use Rattle.policy.specs.Tables.{someBelow, everyBelow, listed, filled}
+use Rattle.lists.specs.Tables.{someBelow, everyBelow, listed, filled}
 
 -- one of the numbers below n
 pub record Some (p : ℕ → Bool) (n : ℕ) : Type 0 where

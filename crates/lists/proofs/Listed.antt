@@ -1,31 +1,21 @@
--- Searches and lists by place: equal functions, members, and the bytes of a front part. Nothing here is about policies.
-use Prim.Native.Nat.{ℕ, zero, suc, _+_, _≤_, _<_}
-use mathlib.Core.Bool.{Bool, true, false}
+-- Lists and tables by place: equal functions and members.
+use Prim.Native.Nat.{ℕ, zero, suc, _-_, _<_}
 use mathlib.Core.List.{List, [], _∷_, _++_, List·Memᴰ, List·Memᴰ·head, Memᴰ·append-left, Memᴰ·append-right, List·Memᴰ·append-cases, List·Memᴰ·eq-of-singleton, List·Memᴰ·not-nil}
 use mathlib.Core.Logic.{_⊎_, inl, inr}
-use mathlib.Core.Path.{_≡_, refl, sym, ap, _∙_}
+use mathlib.Core.Path.{_≡_, refl, ap}
 use native.Mathlib.Decide.{ℕ-discrete}
 use native.Mathlib.Omega.{arith}
-use lib.ListN.{length, drop, length-drop}
-use lib.Seq.{take-append-le, drop-append-le}
-use Rattle.format.proofs.Search.{first-none, first-hit, first-miss}
-use Rattle.format.specs.Bytes.{bytesAt}
-use Rattle.format.specs.Search.{firstFrom}
-use Rattle.policy.specs.Tables.{listed}
+use lib.ListN.{replicate}
+use Rattle.lists.specs.Tables.{listed, filled}
 
--- searches and lists that ask two functions with the same values
-pub first-same : (p q : ℕ → Bool) (n i : ℕ) → ((k : ℕ) → k < i + n → p k ≡ q k) → firstFrom p i n ≡ firstFrom q i n
-first-same p q zero i same = first-none p i ∙ sym (first-none q i)
-first-same p q (suc n) i same = go (q i) refl (first-same p q n (i + 1) (λ k l. same k (omega arith)))
-  where
-    go : (t : Bool) → q i ≡ t → firstFrom p (i + 1) n ≡ firstFrom q (i + 1) n → firstFrom p i (suc n) ≡ firstFrom q i (suc n)
-    go true e rest = first-hit p i n (same i (omega arith) ∙ e) ∙ sym (first-hit q i n e)
-    go false e rest = first-miss p i n (same i (omega arith) ∙ e) ∙ rest ∙ sym (first-miss q i n e)
-
+-- lists and tables of two functions with the same values
 pub listed-same : {A : Type 0} (f g : ℕ → A) (n : ℕ) → ((k : ℕ) → k < n → f k ≡ g k) → listed f n ≡ listed g n
 unfolding listed
 listed-same f g zero same = refl
 listed-same f g (suc n) same = rw (same n (omega arith), listed-same f g n (λ k l. same k (omega arith)))
+
+pub filled-same : {A : Type 0} (size : ℕ) (z : A) (f g : ℕ → A) (n : ℕ) → ((k : ℕ) → k < n → f k ≡ g k) → filled size z f n ≡ filled size z g n
+filled-same {A} size z f g n same = ap (λ (l : List A). l ++ replicate (size - n) z) (listed-same f g n same)
 
 -- the members of a list by place
 module _ {A : Type 0} (f : ℕ → A) where
@@ -47,8 +37,3 @@ module _ {A : Type 0} (f : ℕ → A) where
           → (k : ℕ) × (k < suc n) × (a ≡ f k)
       go (inl h) rest = let r = rest h in (r .0, omega (arith, r .1), r .2)
       go (inr h) rest = (n, omega arith, List·Memᴰ·eq-of-singleton h)
-
--- the bytes of a front part
-pub front-bytes : (front back : List ℕ) (at n : ℕ) → at + n ≤ length front → bytesAt (front ++ back) at n ≡ bytesAt front at n
-front-bytes front back at n h =
-    rw (drop-append-le at front back (omega arith), take-append-le n (drop at front) back (simp length-drop (omega arith)))

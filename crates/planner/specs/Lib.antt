@@ -1,0 +1,3 @@
+pub mod Planned
+pub mod TreeFile
+pub mod Weighing

@@ -1,0 +1,1 @@
+// The plan's core.

@@ -1,5 +1,5 @@
 # make test    everything that the gate asks: the proofs, the must-fail edits, the programs, the comparisons
-# make bench   the compiled code beside C and OpenSSL, as ratios
+# make bench   the compiled code beside C, OpenSSL and Rust, as ratios
 # make compare the second implementation alone, with SEED=n
 
 SHELL := /bin/bash
@@ -10,6 +10,7 @@ SEED ?= 1
 EXPORTS := target/staticlib/libexports.a
 COMPARE := build/compare
 BENCH := build/bench
+BENCH_PLAN := build/bench-plan
 OPENSSL := $(shell echo '\#include <openssl/evp.h>' | $(CC) -E - >/dev/null 2>&1 && echo '-DWITH_OPENSSL -lcrypto')
 
 .PHONY: test compare bench clean FORCE
@@ -20,8 +21,9 @@ test:
 compare: $(COMPARE)
 	@$(COMPARE) $(SEED)
 
-bench: $(BENCH)
+bench: $(BENCH) $(BENCH_PLAN)
 	@$(BENCH)
+	@$(BENCH_PLAN)
 
 # rt decides itself what has to be proved again.
 $(EXPORTS): FORCE
@@ -30,10 +32,13 @@ $(EXPORTS): FORCE
 $(COMPARE): $(EXPORTS) $(wildcard tests/compare/*.rs)
 	@$(RUSTC) --edition 2021 -O -L target/staticlib -l static=exports tests/compare/main.rs -o $@
 
-$(BENCH): $(EXPORTS) $(wildcard tests/bench/*)
+$(BENCH): $(EXPORTS) $(wildcard tests/bench/*.[ch])
 	@$(CC) -O3 -Wall -Wextra tests/bench/bench.c tests/bench/sha256.c $(EXPORTS) $(OPENSSL) -Wno-deprecated-declarations -o $@
 
-$(EXPORTS) $(COMPARE) $(BENCH): | build
+$(BENCH_PLAN): $(EXPORTS) tests/bench/plan.rs
+	@$(RUSTC) --edition 2021 -C opt-level=3 -L target/staticlib -l static=exports tests/bench/plan.rs -o $@
+
+$(EXPORTS) $(COMPARE) $(BENCH) $(BENCH_PLAN): | build
 
 build:
 	@mkdir -p build

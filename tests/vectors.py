@@ -81,5 +81,22 @@ for name, answer in (
     ("65 labels, each paired below the top", "REFUSED 5"),
     ("64 labels and 512 pairs", "64 labels, 512 pairs"),
     ("64 labels and 513 pairs", "REFUSED 5"),
+    # for each label its parent, weight and set size
+    ("plan of an empty policy", "REFUSED 1"),
+    ("plan of one label", "0 7 1, total 7"),
+    ("plan of E", "0 2 1, 0 3 2, 0 5 1, 2 7 1, total 17"),
+    ("plan of the chain A 1, B 0, C 4", "0 1 1, 0 0 2, 0 4 1, total 5"),
+    ("E under 0,0,0,2", "17, least"),
+    ("E under 0,0,0,1", "19, not least"),
+    ("E under 0,0,0,0", "22, not least"),
+    ("E under 0,0,1,2", "REFUSED 12"),
+    ("E under 0,0,0,3, its own parent", "REFUSED 12"),
+    ("E under 1,0,0,2, the top's byte", "REFUSED 12"),
+    ("E, three bytes after TR", "REFUSED 11"),
+    ("E, five bytes after TR, one wrong", "REFUSED 11"),
+    ("E, another mark", "REFUSED 2"),
+    ("E, one byte", "REFUSED 2"),
+    ("E, an empty tree file", "REFUSED 2"),
+    ("an empty policy and an empty tree file", "REFUSED 1"),
 ):
     line(name, answer)

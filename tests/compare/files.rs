@@ -1,7 +1,9 @@
-//! Policy files to compare on: valid ones of every size, damaged ones, and noise.
+//! Files to compare on. Policy files: valid ones of every size and shape, damaged ones, and noise. Tree files:
+//! valid ones and damaged ones.
 
 use crate::policy::{Policy, MOST_LABELS, MOST_PAIRS};
 use crate::random::Random;
+use crate::tree::Planned;
 
 const NAME_BYTES: &[u8] = b"ABCDEFGHIJKLMNOPQRSTUVWXYZ0123456789";
 
@@ -158,6 +160,139 @@ pub fn noise(random: &mut Random, length: usize) -> Vec<u8> {
     if length >= 2 && random.once_in(2) {
         let mark = [b"LB", b"OV", b"TR", b"EN"][random.below(4)];
         file[..2].copy_from_slice(mark);
+    }
+    file
+}
+
+/// Counts for that many labels. Small ones and equal ones are frequent, so that weights tie.
+fn counts(random: &mut Random, labels: usize) -> Vec<u16> {
+    let kind = random.below(6);
+    let same = random.choose(&[0, 1, 65_535]) as u16;
+    let one = |_| match kind {
+        0 | 1 => random.below(3) as u16,
+        2 => same,
+        3 => random.choose(&[0, 65_535]) as u16,
+        4 => random.below(9) as u16,
+        _ => count(random),
+    };
+    (0..labels).map(one).collect()
+}
+
+/// That many earlier labels, not before `from`, each once.
+fn some_of(random: &mut Random, from: usize, lower: usize, many: usize) -> Vec<usize> {
+    let mut left: Vec<usize> = (from..lower).collect();
+    while left.len() > many {
+        left.remove(random.below(left.len()));
+    }
+    left
+}
+
+/// The uppers of a label in an order of the shape: a chain, a star, diamonds hung from each other, a tree,
+/// layers, two chains, near ones, any ones.
+fn uppers(random: &mut Random, shape: usize, width: usize, lower: usize) -> Vec<usize> {
+    let (round, place) = ((lower - 1) / width, (lower - 1) % width);
+    let many = 1 + random.below(8);
+    match shape {
+        0 => vec![lower - 1],
+        1 => vec![0],
+        2 if (lower - 1) % (width + 1) == width => (lower - width..lower).collect(),
+        2 => vec![lower - 1 - (lower - 1) % (width + 1)],
+        3 => vec![random.below(lower)],
+        4 if round > 0 => some_of(random, lower - place - width, lower - place, many),
+        4 => vec![0],
+        5 => vec![lower.saturating_sub(2)],
+        6 => some_of(random, lower.saturating_sub(16), lower, many),
+        _ => some_of(random, 0, lower, many),
+    }
+}
+
+/// An accepted policy with names that differ and those pairs, in any order.
+fn with_pairs(random: &mut Random, labels: usize, mut pairs: Vec<(u8, u8)>) -> Policy {
+    for i in (1..pairs.len()).rev() {
+        pairs.swap(i, random.below(i + 1));
+    }
+    Policy { counts: counts(random, labels), pairs, ..policy(random, labels, 0) }
+}
+
+/// An accepted policy with that many labels in one of the shapes, and up to that many pairs more that are
+/// repeated or, now and then, new.
+pub fn shaped(random: &mut Random, labels: usize, more_pairs: usize) -> Policy {
+    let (shape, width) = (random.below(8), 2 + random.below(7));
+    let mut pairs: Vec<(u8, u8)> = Vec::new();
+    for lower in 1..labels {
+        let uppers = uppers(random, shape, width, lower);
+        pairs.extend(uppers.iter().map(|upper| (*upper as u8, lower as u8)));
+    }
+    let end = MOST_PAIRS.min(pairs.len() + if labels > 1 { more_pairs } else { 0 });
+    let new_in = random.choose(&[2, 20, 1000]);
+    while pairs.len() < end {
+        let lower = 1 + random.below(labels - 1);
+        let new = (random.below(lower) as u8, lower as u8);
+        let again = pairs[random.below(pairs.len())];
+        pairs.push(if random.once_in(new_in) { new } else { again });
+    }
+    with_pairs(random, labels, pairs)
+}
+
+/// An accepted policy for each set of pairs that is possible with that many labels.
+pub fn every_order(random: &mut Random, labels: usize) -> Vec<Policy> {
+    let below = |lower: u8| (0..lower).map(move |upper| (upper, lower));
+    let possible: Vec<(u8, u8)> = (1..labels as u8).flat_map(below).collect();
+    let mut list = Vec::new();
+    for chosen in 0..1usize << possible.len() {
+        let is_chosen = |i: &usize| chosen >> i & 1 == 1;
+        let pairs: Vec<(u8, u8)> = (0..possible.len()).filter(is_chosen).map(|i| possible[i]).collect();
+        if (1..labels as u8).all(|label| pairs.iter().any(|pair| pair.1 == label)) {
+            list.push(with_pairs(random, labels, pairs));
+        }
+    }
+    list
+}
+
+pub fn tree_file(tree: &[usize]) -> Vec<u8> {
+    [b'T', b'R'].into_iter().chain(tree.iter().map(|parent| *parent as u8)).collect()
+}
+
+/// A derivation tree with parents at random.
+pub fn any_tree(random: &mut Random, planned: &Planned) -> Vec<usize> {
+    let mut tree = vec![0];
+    for label in 1..planned.labels() {
+        let above = planned.strictly_above(label);
+        tree.push(above[random.below(above.len())]);
+    }
+    tree
+}
+
+/// A label of the policy that may not be the label's parent: itself, a lower one, or one that it cannot be
+/// compared with.
+fn no_parent(random: &mut Random, planned: &Planned, label: usize) -> usize {
+    let above = planned.strictly_above(label);
+    let others: Vec<usize> = (0..planned.labels()).filter(|l| !above.contains(l)).collect();
+    others[random.below(others.len())]
+}
+
+/// A valid tree file with one injury or two.
+pub fn damaged_tree(random: &mut Random, planned: &Planned) -> Vec<u8> {
+    let mut file = tree_file(&any_tree(random, planned));
+    let labels = planned.labels();
+    for _ in 0..1 + random.below(2) {
+        let at = 2 + random.below(labels);
+        let many = 1 + random.below(3);
+        match random.below(10) {
+            0 => file.truncate(random.below(file.len() + 1)),
+            1 => file.extend(random.bytes(many)),
+            2 => file = noise(random, labels + 2),
+            3 => file = [b"TR".to_vec(), random.bytes(labels)].concat(),
+            4 => file[..2].copy_from_slice([b"LB", b"OV", b"EN", b"KS", b"KD", b"tr", b"RT"][random.below(7)]),
+            5 => file[random.below(2)] = random.byte(),
+            6 => file[2] = 1 + random.below(255) as u8,
+            7 => file[at] = random.choose(&[at - 2, labels, labels + 1, 64, 128, 255]) as u8,
+            8 => file[at] = random.byte(),
+            _ => file[at] = no_parent(random, planned, at - 2) as u8,
+        }
+        if file.len() != 2 + labels {
+            break;
+        }
     }
     file
 }

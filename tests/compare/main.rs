@@ -3,47 +3,19 @@
 //!
 //! compare [SEED]
 
+mod brute;
 mod files;
+mod group;
 mod ours;
+mod plans;
 mod policy;
 mod random;
 mod sha256;
+mod tree;
 
+use group::{hex, Group};
 use random::Random;
 use std::collections::BTreeMap;
-
-/// One group of cases: how many agreed, and the first that did not.
-struct Group {
-    name: &'static str,
-    agreed: usize,
-    differing: Option<String>,
-}
-
-impl Group {
-    fn new(name: &'static str) -> Group {
-        Group { name, agreed: 0, differing: None }
-    }
-
-    fn case<T: PartialEq + std::fmt::Debug>(&mut self, what: impl Fn() -> String, ours: T, theirs: T) {
-        if ours == theirs {
-            self.agreed += 1;
-        } else if self.differing.is_none() {
-            self.differing = Some(format!("{}: ours {:?}, second {:?}", what(), ours, theirs));
-        }
-    }
-
-    fn report(self, note: &str) -> bool {
-        match self.differing {
-            None => println!("compare: {}: {} cases agree{}", self.name, self.agreed, note),
-            Some(ref first) => println!("compare: {}: DIFFERENT at {}", self.name, first),
-        }
-        self.differing.is_none() && self.agreed > 0
-    }
-}
-
-fn hex(bytes: &[u8]) -> String {
-    bytes.iter().map(|b| format!("{b:02x}")).collect()
-}
 
 fn hash_lengths(random: &mut Random, second: &sha256::Sha256) -> bool {
     let mut group = Group::new("sha256, every length from 0 to 1,024");
@@ -143,6 +115,7 @@ fn main() {
     println!("compare: seed {seed}");
     let random = &mut Random::new(seed);
     let second = &sha256::Sha256::new();
+    let counts = &mut plans::Counts::default();
     let results = [
         hash_lengths(random, second),
         hash_random(random, second),
@@ -160,7 +133,17 @@ fn main() {
         })),
         order(random),
         order_refused(random),
+        plans::by_hand(counts),
+        plans::tried_every_order(random, counts),
+        plans::tried_shapes(random, counts),
+        plans::every_tree_file(random, counts),
+        plans::larger(random, counts),
+        plans::tree_files(random, counts),
+        plans::rooms(random, counts),
+        plans::refused(random, counts),
     ];
+    let plans::Counts { plans, trees, texts } = counts;
+    println!("compare: in all {plans} policies planned, {trees} trees weighed, {texts} texts written");
     let passed = results.iter().filter(|passed| **passed).count();
     println!("{} passed, {} failed", passed, results.len() - passed);
     std::process::exit(if passed == results.len() { 0 } else { 1 });

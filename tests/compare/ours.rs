@@ -1,6 +1,7 @@
 //! The proved library, through its C interface. Each wrapper takes slices and gives plain values.
 
 use crate::policy::Policy;
+use crate::tree::Plan;
 
 #[repr(C)]
 struct Digest {
@@ -24,6 +25,29 @@ struct PolicyRead {
     over: [Pair; 512],
 }
 
+#[repr(C)]
+struct PlanMade {
+    refusal: u8,
+    labels: usize,
+    parents: [u8; 64],
+    weights: [u32; 64],
+    sizes: [u8; 64],
+    total: u32,
+}
+
+#[repr(C)]
+struct Weighed {
+    refusal: u8,
+    total: u32,
+    least: bool,
+}
+
+#[repr(C)]
+struct Written {
+    refusal: u8,
+    length: usize,
+}
+
 extern "C" {
     fn yendlowa_sha256(message: *const u8, length: usize) -> Digest;
     fn yendlowa_hmac_sha256(
@@ -34,6 +58,19 @@ extern "C" {
     ) -> Digest;
     fn yendlowa_read_policy(policy: *const u8, length: usize) -> PolicyRead;
     fn yendlowa_order(policy: *const u8, length: usize, rows: *mut [[bool; 64]; 64]) -> u8;
+    fn yendlowa_plan(policy: *const u8, length: usize) -> PlanMade;
+    fn yendlowa_weigh(
+        policy: *const u8,
+        policy_length: usize,
+        tree: *const u8,
+        tree_length: usize,
+    ) -> Weighed;
+    fn yendlowa_plan_text(
+        policy: *const u8,
+        policy_length: usize,
+        out: *mut u8,
+        out_length: usize,
+    ) -> Written;
 }
 
 pub fn sha256(message: &[u8]) -> (u8, [u8; 32]) {
@@ -75,4 +112,45 @@ pub fn order(policy: &[u8]) -> (u8, Box<[[bool; 64]; 64]>) {
 /// What `read_policy` should give for a policy that the second implementation read.
 pub fn expected(policy: &Policy) -> (Vec<u16>, Vec<(u8, u8)>) {
     (policy.counts.clone(), policy.pairs.clone())
+}
+
+/// The plan, or the refusal. Entries past the label count, and all beside a refusal, have to be zero; else
+/// the error is 255.
+pub fn plan(policy: &[u8]) -> Result<Plan, u8> {
+    let made = unsafe { yendlowa_plan(policy.as_ptr(), policy.len()) };
+    let labels = made.labels;
+    let behind_zero = made.parents.iter().skip(labels).all(|parent| *parent == 0)
+        && made.weights.iter().skip(labels).all(|weight| *weight == 0)
+        && made.sizes.iter().skip(labels).all(|size| *size == 0);
+    if labels > 64 || !behind_zero || (made.refusal != 0 && (labels, made.total) != (0, 0)) {
+        return Err(255);
+    }
+    if made.refusal != 0 {
+        return Err(made.refusal);
+    }
+    Ok(Plan {
+        parents: made.parents[..labels].to_vec(),
+        weights: made.weights[..labels].to_vec(),
+        sizes: made.sizes[..labels].to_vec(),
+        total: made.total,
+    })
+}
+
+/// A tree's total and whether it is least, or the refusal. Beside a refusal stand 0 and no; else the error
+/// is 255.
+pub fn weigh(policy: &[u8], tree: &[u8]) -> Result<(u32, bool), u8> {
+    let weighed = unsafe { yendlowa_weigh(policy.as_ptr(), policy.len(), tree.as_ptr(), tree.len()) };
+    match (weighed.refusal, weighed.total, weighed.least) {
+        (0, total, least) => Ok((total, least)),
+        (number, 0, false) => Err(number),
+        _ => Err(255),
+    }
+}
+
+/// The refusal and the length of the text that was written into `out`.
+pub fn plan_text(policy: &[u8], out: &mut [u8]) -> (u8, usize) {
+    let written = unsafe {
+        yendlowa_plan_text(policy.as_ptr(), policy.len(), out.as_mut_ptr(), out.len())
+    };
+    (written.refusal, written.length)
 }

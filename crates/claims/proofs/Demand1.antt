@@ -1,14 +1,27 @@
--- Demand 1 for policies, shown for every list of bytes.
-use Prim.Native.Nat.{ℕ}
+-- Demand 1 for policy files and tree files, shown for every list of bytes.
+use Prim.Native.Nat.{ℕ, _≤_, _<_}
 use mathlib.Core.List.{List}
+use mathlib.Core.Logic.{_⊎_, inl, inr, _↔_}
+use mathlib.Core.Path.{_≡_, sym, ap, _∙_}
+use native.Mathlib.Omega.{arith}
+use Rattle.planner.proofs.PlanAnswer.{plan-refused}
+use Rattle.planner.proofs.PolicyOrder.{policy-order}
+use Rattle.planner.proofs.TreeNumbers.{tree-refusal-2, tree-refusal-11, tree-refusal-12, tree-refusal-range}
+use Rattle.planner.proofs.WeighAnswer.{weigh-policy-refused, weigh-number, weigh-tree-refused, weigh-accepted}
+use Rattle.planner.specs.Planned.{testOf}
+use Rattle.planner.specs.TreeFile.{treeRefusal}
+use Rattle.planner.specs.Weighing.{refusedWeighed, weighOf}
+use Rattle.planner.specs.declared.Weighed.{Weighed}
 use Rattle.policy.proofs.Demand1.{refusal-1, refusal-2, refusal-3, refusal-4, refusal-5, refusal-6, refusal-7, refusal-8, refusal-9, refusal-10, accepted-iff, read-or-refused, refused-zeros}
+use Rattle.policy.specs.Whole.{refusalOf, labelsOf, Accepted}
 use Rattle.policy.proofs.Front.{front-answers}
-use Rattle.claims.specs.Demand1.{Demand1}
+use Rattle.claims.specs.Demand1.{Demand1, Demand1OfTree}
 
 pub demand1 : (file : List ℕ) → Demand1 file
 demand1 file = record {
   answered = read-or-refused file;
   zeros = refused-zeros file;
+  plan-zeros = plan-refused file;
   empty = refusal-1 file;
   no-mark = refusal-2 file;
   cut-short = refusal-3 file;
@@ -22,3 +35,30 @@ demand1 file = record {
   accepted = accepted-iff file;
   front = front-answers file;
 }
+
+module _ (policy tree : List ℕ) where
+  module _ (ok : Accepted policy) where
+    -- the answer's number is the tree file's own
+    number : weighOf policy tree .refusal ≡ treeRefusal (labelsOf policy) (testOf policy) tree
+    number = weigh-number policy tree ok
+
+    exactly : {Row : Type 0} (k : ℕ) → (treeRefusal (labelsOf policy) (testOf policy) tree ≡ k) ↔ Row → (weighOf policy tree .refusal ≡ k) ↔ Row
+    exactly k iff = (λ e. iff .0 (sym number ∙ e), λ r. number ∙ iff .1 r)
+
+  tree-zeros : 0 < weighOf policy tree .refusal → weighOf policy tree ≡ refusedWeighed (weighOf policy tree .refusal)
+  tree-zeros h = go (read-or-refused policy)
+    where
+      go : Accepted policy ⊎ ((1 ≤ refusalOf policy) × (refusalOf policy ≤ 10)) → weighOf policy tree ≡ refusedWeighed (weighOf policy tree .refusal)
+      go (inl ok) = let e = number ok in weigh-tree-refused policy tree ok (omega arith) ∙ ap refusedWeighed (sym e)
+      go (inr bad) = let e = weigh-policy-refused policy tree (bad .0) in e ∙ ap refusedWeighed (sym (ap (λ (w : Weighed). w .refusal) e))
+
+  pub demand1-of-tree : Demand1OfTree policy tree
+  demand1-of-tree = record {
+    policy-first = λ h. ap (λ (w : Weighed). w .refusal) (weigh-policy-refused policy tree h);
+    zeros = tree-zeros;
+    no-mark = λ ok. exactly ok 2 (tree-refusal-2 (policy-order policy ok) tree);
+    other-length = λ ok. exactly ok 11 (tree-refusal-11 (policy-order policy ok) tree);
+    no-parent = λ ok. exactly ok 12 (tree-refusal-12 (policy-order policy ok) tree);
+    read = weigh-accepted policy tree;
+    answered = λ ok. rw (number ok) (tree-refusal-range (policy-order policy ok) tree);
+  }

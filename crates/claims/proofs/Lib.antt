@@ -1,3 +1,2 @@
 pub mod Demand1
-pub mod Order
 pub mod Demand3

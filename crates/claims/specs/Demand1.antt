@@ -1,18 +1,24 @@
--- Demand 1 for policies: "Every policy file .. be it empty, cut short or noise, is either read or refused under a number from the list.
--- A refusal yields zeros beside the number". The rows of 01's table stand in words in the policy crate's specs/Rows.antt.
+-- Demand 1 for policy files and tree files: "Every policy file, tree file .. be it empty, cut short or noise, is either read or refused under
+-- a number from the list. A refusal yields zeros beside the number". The rows of 01's table stand in words in the policy crate's
+-- specs/Rows.antt and in the planner crate's specs/TreeRows.antt.
 use Prim.Native.Nat.{ℕ, _≤_, _<_}
 use mathlib.Core.List.{List}
 use mathlib.Core.Logic.{_↔_, _⊎_}
 use mathlib.Core.Path.{_≡_}
 use lib.ListN.{length, take}
+use Rattle.order.specs.Order.{AtOrBelow}
+use Rattle.planner.specs.Planned.{planOf, refusedPlan}
+use Rattle.planner.specs.TreeRows.{NoTreeMark, OtherLength, NoParent, GivesTree}
+use Rattle.planner.specs.Weighing.{refusedWeighed, weighOf}
 use Rattle.policy.specs.Rows.{NoMark, CutShort, LateLabel, TooMany, BadName, NameCarried, NoSuchLabel, NotAbove, Unplaced, NoneRefuses, Reached, refusedPolicy}
-use Rattle.policy.specs.Whole.{refusalOf, labelsOf, pairCount, Accepted, policyOf}
+use Rattle.policy.specs.Whole.{refusalOf, labelsOf, pairCount, pairsOf, Accepted, policyOf}
 
 pub record Demand1 (file : List ℕ) : Type 0 where
   -- "either read or refused under a number from the list"; an accepted file's number is 0, so never both
   pub answered : Accepted file ⊎ ((1 ≤ refusalOf file) × (refusalOf file ≤ 10))
   -- "A refusal yields zeros beside the number"
   pub zeros : 0 < refusalOf file → policyOf file ≡ refusedPolicy (refusalOf file)
+  pub plan-zeros : 0 < refusalOf file → planOf file ≡ refusedPlan (refusalOf file)
   -- "Given when, and only when reached": a number is answered exactly when all records before pass and its row holds
   pub empty : (refusalOf file ≡ 1) ↔ (length file ≡ 0)
   pub no-mark : (refusalOf file ≡ 2) ↔ Reached file NoMark
@@ -28,3 +34,16 @@ pub record Demand1 (file : List ℕ) : Type 0 where
   pub accepted : Accepted file ↔ NoneRefuses file (labelsOf file) (pairCount file)
   -- The answer for a file is that for its first 2,828 bytes.
   pub front : policyOf file ≡ policyOf (take 2828 file)
+
+-- a tree file that is offered with a policy
+pub record Demand1OfTree (policy tree : List ℕ) : Type 0 where
+  -- "A refusal of the policy comes before any other"; "every number in the answer is 0, a yes or no is no"
+  pub policy-first : 0 < refusalOf policy → weighOf policy tree .refusal ≡ refusalOf policy
+  pub zeros : 0 < weighOf policy tree .refusal → weighOf policy tree ≡ refusedWeighed (weighOf policy tree .refusal)
+  -- a number is given exactly when its row says so, with a policy that is accepted; every other file is read and gives a derivation tree
+  pub no-mark : Accepted policy → (weighOf policy tree .refusal ≡ 2) ↔ NoTreeMark tree
+  pub other-length : Accepted policy → (weighOf policy tree .refusal ≡ 11) ↔ OtherLength (labelsOf policy) tree
+  pub no-parent : Accepted policy → (weighOf policy tree .refusal ≡ 12) ↔ NoParent (labelsOf policy) (AtOrBelow (pairsOf policy)) tree
+  pub read : Accepted policy → (weighOf policy tree .refusal ≡ 0) ↔ GivesTree (labelsOf policy) (AtOrBelow (pairsOf policy)) tree
+  pub answered : Accepted policy
+      → (weighOf policy tree .refusal ≡ 0) ⊎ (weighOf policy tree .refusal ≡ 2) ⊎ (weighOf policy tree .refusal ≡ 11) ⊎ (weighOf policy tree .refusal ≡ 12)

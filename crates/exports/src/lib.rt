@@ -1,10 +1,17 @@
 // The operations for C callers, each by the equation of the operation itself. A slice is passed as a pointer and a length.
+use planner::Plan;
+use planner::Weighed;
 use policy::Policy;
 use sha256::Digest;
+use text::Written;
 ghost use mathlib.Core.Path.{_≡_};
+ghost use lib.ListN.{length};
 ghost use Rattle.sha256.specs.Digest.{sha256Of};
 ghost use Rattle.hmac.specs.HmacAnswer.{hmacOf};
 ghost use Rattle.policy.specs.Whole.{refusalOf, policyOf};
+ghost use Rattle.planner.specs.Planned.{planOf};
+ghost use Rattle.planner.specs.Weighing.{weighOf};
+ghost use Rattle.text.specs.Answer.{writtenOf, bufferAfter};
 ghost use Rattle.exports.specs.Rows.{rowsAfter};
 
 #[no_mangle]
@@ -41,4 +48,25 @@ pub extern "C" fn yendlowa_order(policy: &[u8], rows: &mut [[bool; 64]; 64]) -> 
     let table = order::order_table(read.labels, read.pairs, over);
     *rows = table;
     0
+}
+
+#[no_mangle]
+pub extern "C" fn yendlowa_plan(policy: &[u8]) -> Plan
+    ensures { λ r. ⌜ r ≡ planOf (now (policy .entry)) ⌝ }
+{
+    planner::plan_policy(policy)
+}
+
+#[no_mangle]
+pub extern "C" fn yendlowa_weigh(policy: &[u8], tree: &[u8]) -> Weighed
+    ensures { λ r. ⌜ r ≡ weighOf (now (policy .entry)) (now (tree .entry)) ⌝ }
+{
+    planner::weigh(policy, tree)
+}
+
+#[no_mangle]
+pub extern "C" fn yendlowa_plan_text(policy: &[u8], out: &mut [u8]) -> Written
+    ensures { λ r. ⌜ (r ≡ writtenOf (now (policy .entry)) (length (now (out .entry)))) × (now (out .exit) ≡ bufferAfter (now (policy .entry)) (now (out .entry))) ⌝ }
+{
+    text::plan_text(policy, out)
 }

@@ -1,12 +1,12 @@
--- What a buffer of zeros holds after writes: laws of `pasted` and `zeroFilled`.
+-- What a buffer holds after writes: laws of `pasted` and `zeroFilled`.
 use mathlib.Core.Path.{_≡_, refl, sym, ap, _∙_}
 use mathlib.Core.List.{List, [], _∷_, _++_, append-assoc, append-nil}
 use Prim.Native.Nat.{ℕ, suc, _+_, _-_, _≤_, _<_}
 use native.Mathlib.Nat.{sub-zero}
 use native.Mathlib.Numerals.{add-one}
 use native.Mathlib.Omega.{arith}
-use lib.ListN.{length, set, take, drop, replicate, length-append, length-replicate, replicate-append-replicate}
-use lib.Seq.{sets-eq, take-at, drop-at, take-length}
+use lib.ListN.{length, set, take, drop, replicate, length-append, length-take, length-replicate, drop-of-length-le, replicate-append-replicate}
+use lib.Seq.{sets-eq, take-at, drop-at, take-length, length-take-le, drop-append-add, drop-drop}
 use Rattle.lists.specs.Buffer.{pasted, zeroFilled}
 
 -- stores one behind the other are a paste
@@ -28,6 +28,32 @@ unfolding pasted
 pasted-middle q z t s e =
     let l : length (q ++ z) ≡ length q + length s = length-append q z ∙ ap (λ (k : ℕ). length q + k) e in
     rw (append-assoc q z t, take-at q (z ++ t) (length q) refl, ← append-assoc q z t, drop-at (q ++ z) t (length q + length s) l)
+
+-- two adjacent writes are one
+pub pasted-adjacent : (d : List ℕ) (at : ℕ) (s t : List ℕ) → at + length s + length t ≤ length d
+    → pasted (pasted d at s) (at + length s) t ≡ pasted d at (s ++ t)
+unfolding pasted
+pasted-adjacent d at s t h =
+    let x : List ℕ = take at d ++ s in
+    let y : List ℕ = drop (at + length s) d in
+    let lx : length x ≡ at + length s = simp length-append (omega (arith, length-take-le at d (omega arith))) in
+    let end : at + length s + length t ≡ at + length (s ++ t) = omega (arith, length-append s t) in
+    let back : drop (at + length s + length t) (x ++ y) ≡ drop (at + length (s ++ t)) d =
+    ap (λ (k : ℕ). drop (k + length t) (x ++ y)) (sym lx) ∙ drop-append-add x y (length t) ∙ drop-drop (length t) (at + length s) d
+    ∙ ap (λ (k : ℕ). drop k d) end
+    in
+    rw (take-at x y (at + length s) lx, back, append-assoc (take at d) s t)
+
+-- a copy into the part of a buffer from at on is a write
+pub part-copied : (d : List ℕ) (at : ℕ) (s copied : List ℕ) → at + length s ≤ length d
+    → copied ≡ take (length s) s ++ drop (length s) (take (at + length s - at) (drop at d))
+    → take at d ++ (copied ++ drop (at + length s - at) (drop at d)) ≡ pasted d at s
+unfolding pasted
+part-copied d at s copied h e =
+    let k : at + length s - at ≡ length s = omega arith in
+    let none : drop (length s) (take (length s) (drop at d)) ≡ [] =
+    drop-of-length-le (take (length s) (drop at d)) {i = length s} (omega (arith, length-take (length s) (drop at d))) in
+    rw (e, k, none, take-length s, append-nil s, drop-drop (length s) at d, append-assoc (take at d) s (drop (at + length s) d))
 
 -- k zeros
 abbrev zeros : ℕ → List ℕ

@@ -7,7 +7,7 @@ use native.Mathlib.Omega.{arith}
 use lib.ListN.{getD, replicate}
 use Rattle.order.specs.declared.Pair.{Pair}
 use Rattle.order.specs.Order.{AtOrBelow, same, down, Proper, Topped}
-use Rattle.order.specs.Table.{noRow, joined, withPairs, labelRow, rowsBelow, orderTable}
+use Rattle.order.specs.Table.{noRow, joined, linked, rowUpTo, labelRow, rowsBelow, orderTable}
 use Rattle.order.proofs.Order.{proper-at, topped-at}
 use Rattle.order.proofs.Laws.{table-yes}
 
@@ -22,7 +22,7 @@ row a b c d = (a ∷ b ∷ c ∷ d ∷ []) ++ replicate 60 false
 -- who is at or below whom: CURVES and CONV32 cannot be compared, ACCRUED is below all
 pub table-E : orderTable 4 pairsE
     ≡ (row true false false false ∷ row true true false false ∷ row true false true false ∷ row true true true true ∷ []) ++ replicate 60 noRow
-unfolding joined withPairs labelRow rowsBelow orderTable
+unfolding joined linked rowUpTo labelRow rowsBelow orderTable
 table-E = refl
 
 -- ACCRUED is below SUITE by the chain 0-1, 1-3
@@ -58,5 +58,5 @@ topped-E = topped-at 4 pairsE past each
 
 -- so no chain of pairs leads from CURVES down to CONV32, or back
 pub not-comparable : (AtOrBelow pairsE 2 1 → ⊥) × (AtOrBelow pairsE 1 2 → ⊥)
-unfolding joined withPairs labelRow rowsBelow orderTable
+unfolding joined linked rowUpTo labelRow rowsBelow orderTable
 not-comparable = (λ h. false≢true (table-yes proper-E (omega arith) h), λ h. false≢true (table-yes proper-E (omega arith) h))

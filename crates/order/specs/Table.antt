@@ -1,11 +1,16 @@
 -- The order as a table: "64 rows of 64 yes-or-no entries" (document 01, "The policy file").
 -- Row m lists the labels at or above m: entry l of row m says whether label m is at or below label l.
-use Prim.Native.Nat.{ℕ, zero, suc, min}
+use Prim.Native.Nat.{ℕ, zero, suc, min, _<_}
 use mathlib.Core.Bool.{Bool, true, false, cond, _&&_, _||_}
 use mathlib.Core.List.{List, [], _∷_}
-use lib.Dec.{eqb, ltb}
+use mathlib.Core.Path.{_≡_}
+use lib.Dec.{eqb}
 use lib.ListN.{getD, replicate, set}
 use Rattle.order.specs.declared.Pair.{Pair}
+
+-- entry l of row m, and no past the table's ends
+abbrev pub entryAt : List (List Bool) → ℕ → ℕ → Bool
+entryAt rows m l = getD (getD rows m []) l false
 
 -- a row that says no of every label
 abbrev pub noRow : List Bool
@@ -25,32 +30,33 @@ joined [] s = s
 joined (a ∷ r) [] = a ∷ r
 joined (a ∷ r) (b ∷ s) = (a || b) ∷ joined r s
 
--- the pair leads down to label m, from a smaller number, whose row is complete when row m is made
-abbrev pub leadsTo : ℕ → Pair → Bool
-leadsTo m p = eqb (p .lower) m && ltb (p .upper) m
+-- whether a pair leads from label u down to label m
+unfoldable pub linked : List Pair → (m u : ℕ) → Bool
+linked [] m u = false
+linked (p ∷ ps) m u = (eqb (p .lower) m && eqb (p .upper) u) || linked ps m u
 
--- a row of label m with what the pair adds to it: the labels at or above its upper label
-abbrev pub withPair : List (List Bool) → ℕ → List Bool → Pair → List Bool
-withPair rows m row p = cond (leadsTo m p) (joined row (rowAt rows (p .upper))) row
+-- a table that says which labels lead down to which
+pub record Links (table : List (List Bool)) (pairs : List Pair) : Type 0 where
+  pub says : (m u : ℕ) → m < 64 → u < 64 → entryAt table m u ≡ linked pairs m u
 
--- the same for each pair of a list, from the first on
-unfoldable pub withPairs : List (List Bool) → ℕ → List Bool → List Pair → List Bool
-withPairs rows m row [] = row
-withPairs rows m row (p ∷ ps) = withPairs rows m (withPair rows m row p) ps
+-- a row of label m: m itself, and the rows of those labels below k from which a pair leads down to it
+unfoldable pub rowUpTo : List (List Bool) → (leads : ℕ → Bool) → (m k : ℕ) → List Bool
+rowUpTo rows leads m zero = alone m
+rowUpTo rows leads m (suc u) = let row = rowUpTo rows leads m u in cond (leads u) (joined row (rowAt rows u)) row
 
--- the row of label m, from the rows of the labels before it: m itself, and what every pair adds
-unfoldable pub labelRow : List (List Bool) → List Pair → ℕ → List Bool
-labelRow rows pairs m = withPairs rows m (alone m) pairs
+-- the row of label m, from the complete rows of the labels before it
+unfoldable pub labelRow : List (List Bool) → (leads : ℕ → Bool) → (m : ℕ) → List Bool
+labelRow rows leads m = rowUpTo rows leads m m
 
 -- the rows of the labels below n, in ascending order; the others are all no
-unfoldable pub rowsBelow : ℕ → List Pair → List (List Bool)
-rowsBelow zero pairs = replicate 64 noRow
-rowsBelow (suc n) pairs = let rows = rowsBelow n pairs in set rows n (labelRow rows pairs n)
+unfoldable pub rowsBelow : ℕ → (leads : ℕ → ℕ → Bool) → List (List Bool)
+rowsBelow zero leads = replicate 64 noRow
+rowsBelow (suc n) leads = let rows = rowsBelow n leads in set rows n (labelRow rows (leads n) n)
 
 -- the table of a policy's labels and over-pairs; a label count above 64 counts as 64
 unfoldable pub orderTable : ℕ → List Pair → List (List Bool)
-orderTable labels pairs = rowsBelow (min labels 64) pairs
+orderTable labels pairs = rowsBelow (min labels 64) (linked pairs)
 
--- entry l of row m, and no past the table's ends
+-- "at or below", by the table
 abbrev pub atOrBelow : List (List Bool) → ℕ → ℕ → Bool
-atOrBelow rows m l = getD (getD rows m []) l false
+atOrBelow rows m l = entryAt rows m l

@@ -2,7 +2,7 @@
 ghost use Prim.Native.Nat.{min, _<_, _≤_};
 ghost use mathlib.Core.Path.{_≡_};
 ghost use lib.ListN.{take};
-ghost use Rattle.order.specs.Table.{alone, rowAt, joined, labelRow, orderTable, atOrBelow};
+ghost use Rattle.order.specs.Table.{entryAt, alone, rowAt, joined, Links, labelRow, orderTable, atOrBelow};
 
 // An over-pair, the numbers of one `OV` record.
 #[repr(C)]
@@ -56,23 +56,40 @@ fn joined(row: [bool; 64], above: [bool; 64]) -> [bool; 64]
     both
 }
 
-// The row of label `m`: itself, and the row of each upper label of a pair that leads down to it.
-fn label_row(rows: &[[bool; 64]; 64], m: usize, pairs: usize, over: [Pair; 512]) -> [bool; 64]
-    requires { ⌜ (m < 64) × (pairs ≤ 512) ⌝ }
-    ensures { λ r. ⌜ r ≡ labelRow (now (rows .entry)) (take pairs over) m ⌝ }
+// Which labels the first `pairs` pairs lead down from: entry `u` of row `m` says whether one leads from `u` to `m`.
+fn links(pairs: usize, over: [Pair; 512]) -> [[bool; 64]; 64]
+    requires { ⌜ pairs ≤ 512 ⌝ }
+    ensures { λ r. ⌜ Links r (take pairs over) ⌝ }
 {
-    let mut row = alone(m);
+    let mut table = [[false; 64]; 64];
     let mut i = 0;
     while i < pairs {
         let pair = over[i];
         let upper = wide(pair.upper);
         let lower = wide(pair.lower);
         i += 1;
-        if lower == m {
-            if upper < m {
-                let next = joined(row, row_at(rows, upper));
-                row = next;
+        if upper < 64 {
+            if lower < 64 {
+                table[lower][upper] = true;
             }
+        }
+    }
+    table
+}
+
+// The row of label `m`: itself, and the row of each label before it that leads down to it.
+fn label_row(rows: &[[bool; 64]; 64], links: &[[bool; 64]; 64], m: usize) -> [bool; 64]
+    requires { ⌜ m < 64 ⌝ }
+    ensures { λ r. ⌜ r ≡ labelRow (now (rows .entry)) (entryAt (now (links .entry)) m) m ⌝ }
+{
+    let mut row = alone(m);
+    let mut next = 0;
+    while next < m {
+        let u = next;
+        next += 1;
+        if links[m][u] {
+            let both = joined(row, row_at(rows, u));
+            row = both;
         }
     }
     row
@@ -84,10 +101,10 @@ pub fn order_table(labels: usize, pairs: usize, over: [Pair; 512]) -> [[bool; 64
 {
     let mut rows = [[false; 64]; 64];
     let n = at_most(labels, 64);
-    let k = at_most(pairs, 512);
+    let links = links(at_most(pairs, 512), over);
     let mut m = 0;
     while m < n {
-        let row = label_row(&rows, m, k, over);
+        let row = label_row(&rows, &links, m);
         rows[m] = row;
         m += 1;
     }

@@ -1,3 +1,4 @@
-pub mod Planned
 pub mod TreeFile
+pub mod TreeRows
+pub mod Planned
 pub mod Weighing

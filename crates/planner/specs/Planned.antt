@@ -2,6 +2,7 @@
 use Prim.Native.Nat.{ℕ}
 use mathlib.Core.Bool.{Bool}
 use mathlib.Core.List.{List}
+use lib.ListN.{replicate}
 use Rattle.order.specs.Table.{atOrBelow}
 use Rattle.policy.specs.File.{countOf}
 use Rattle.policy.specs.Whole.{refusalOf, labelsOf, orderOf}
@@ -32,4 +33,15 @@ planOf file = record {
   weights = weightTable (labelsOf file) (countOf file) (testOf file) (planTree file);
   sizes = sizeTable (labelsOf file) (testOf file) (planTree file);
   total = treeTotal file (planTree file);
+}
+
+-- "With a refusal every number in the answer is 0"
+abbrev pub refusedPlan : ℕ → Plan
+refusedPlan number = record {
+  refusal = number;
+  labels = 0;
+  parents = replicate 64 0;
+  weights = replicate 64 0;
+  sizes = replicate 64 0;
+  total = 0;
 }

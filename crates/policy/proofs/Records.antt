@@ -1,17 +1,20 @@
 -- Laws of the whole file, read record by record.
 use Prim.Native.Nat.{ℕ, suc, _+_, _-_, _≤_, _<_}
-use mathlib.Core.Bool.{true, false, or-true}
+use mathlib.Core.Bool.{Bool, true, false, or-true, or-false}
 use mathlib.Core.List.{List}
 use mathlib.Core.Path.{_≡_, refl, sym, ap, _∙_}
+use native.Mathlib.Numerals.{add-one}
 use native.Mathlib.Omega.{arith}
-use lib.ListN.{length}
+use lib.ListN.{length, getD, set, replicate}
 use borrow.Author.Tests.{eq-eqb, ne-eqb}
 use Rattle.order.specs.declared.Pair.{Pair}
 use Rattle.policy.proofs.Meaning.{label-iff, over-iff}
-use Rattle.policy.specs.File.{placeOf}
+use Rattle.policy.specs.File.{placeOf, pairAt}
 use Rattle.policy.specs.Record.{kindAt, withName, recordAt}
-use Rattle.lists.specs.Tables.{everyBelow}
-use Rattle.policy.specs.Whole.{refused, isLower, isPlaced, atEnd, scanFrom, scanned}
+use Rattle.lists.proofs.Listed.{listed-set}
+use Rattle.lists.proofs.Tables.{getD-listed}
+use Rattle.lists.specs.Tables.{someBelow, everyBelow, listed}
+use Rattle.policy.specs.Whole.{refused, isLowerOf, isLower, isPlaced, atEnd, scanFrom, scanned}
 use Rattle.policy.specs.declared.Kind.the-variants.{Label, Over, End, Refused}
 use Rattle.policy.specs.declared.Record.{Record}
 
@@ -28,6 +31,23 @@ module _ (file : List ℕ) (labels pairs : ℕ) where
   pub unplaced : (m : ℕ) → 1 ≤ m → isLower file labels pairs m ≡ false → isPlaced file labels pairs m ≡ false
   unfolding isPlaced
   unplaced m h e = rw (ne-eqb m 0 (omega arith), e)
+
+-- which numbers are the lower of a pair, as pair after pair is gone through
+module _ (file : List ℕ) (labels : ℕ) where
+  pub no-lowers : replicate 256 false ≡ listed (isLower file labels 0) 256
+  unfolding listed isLower someBelow
+  no-lowers = refl
+
+  pub lowers-more : (k : ℕ) → pairAt file labels k .lower < 256
+      → set (listed (isLower file labels k) 256) (pairAt file labels k .lower) true ≡ listed (isLower file labels (k + 1)) 256
+  unfolding isLower isLowerOf someBelow
+  lowers-more k h =
+      listed-set (isLower file labels k) (isLower file labels (k + 1)) 256 (pairAt file labels k .lower) true h
+      (rw (add-one, eq-eqb (pairAt file labels k .lower) (pairAt file labels k .lower) refl, or-true))
+      (λ m lt ne. rw (add-one, ne-eqb (pairAt file labels k .lower) m (λ e. ne (sym e)), or-false))
+
+  pub lower-at : (pairs : ℕ) (found : List Bool) (m : ℕ) → found ≡ listed (isLower file labels pairs) 256 → m < 256 → getD found m false ≡ isLower file labels pairs m
+  lower-at pairs found m e h = rw e (getD-listed (isLower file labels pairs) 256 m false h)
 
 -- the kind of a record that was read
 pub kind-of : (file : List ℕ) (labels pairs : ℕ) (r : Record) → r ≡ recordAt file labels pairs → kindAt file labels pairs ≡ r .kind

@@ -6,7 +6,7 @@ use order::Pair;
 ghost use mathlib.Core.Path.{_≡_};
 ghost use Prim.Native.Nat.{_+_, _*_, _≤_};
 ghost use lib.ListN.{length};
-ghost use Rattle.lists.specs.Tables.{filled};
+ghost use Rattle.lists.specs.Tables.{listed, filled};
 ghost use Rattle.policy.specs.File.{placeOf, countOf, pairAt, labelNamed};
 ghost use Rattle.policy.specs.Record.{unnamedOf, withName, labelKind, overKind, recordAt};
 ghost use Rattle.policy.specs.Whole.{isLower, atEnd, scanned, noPair, policyOf};
@@ -157,30 +157,31 @@ fn read_record(policy: &[u8], labels: usize, pairs: usize) -> Record
     unnamed(Kind::Refused(2))
 }
 
-// Whether label `m` is the lower of one of the first `pairs` pairs.
-fn is_lower(policy: &[u8], labels: usize, pairs: usize, m: usize) -> bool
+// Which numbers are the lower of one of the first `pairs` pairs.
+fn lowers(policy: &[u8], labels: usize, pairs: usize) -> [bool; 256]
     requires { ⌜ placeOf labels pairs ≤ length (now policy) ⌝ }
-    ensures { λ r. ⌜ r ≡ isLower (now (policy .entry)) labels pairs m ⌝ }
+    ensures { λ r. ⌜ r ≡ listed (isLower (now (policy .entry)) labels pairs) 256 ⌝ }
 {
+    let mut found = [false; 256];
     let mut k = 0;
     while k < pairs {
         let pair = read_pair(policy, labels, k);
-        if pair.lower as usize == m {
-            return true;
-        }
+        let lower = pair.lower as usize;
+        found[lower] = true;
         k += 1;
     }
-    false
+    found
 }
 
 // The answer at the end of the file: every label but 0 has to be the lower of a pair.
 fn at_end(policy: &[u8], labels: usize, pairs: usize) -> Scan
-    requires { ⌜ placeOf labels pairs ≤ length (now policy) ⌝ }
+    requires { ⌜ (labels ≤ 64) × (placeOf labels pairs ≤ length (now policy)) ⌝ }
     ensures { λ r. ⌜ r ≡ atEnd (now (policy .entry)) labels pairs ⌝ }
 {
+    let lower = lowers(policy, labels, pairs);
     let mut m = 1;
     while m < labels {
-        if !is_lower(policy, labels, pairs, m) {
+        if !lower[m] {
             return Scan {
                 refusal: 10,
                 labels: 0,

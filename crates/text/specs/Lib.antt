@@ -1,3 +1,4 @@
 pub mod Decimal
 pub mod Listing
+pub mod Put
 pub mod Answer

@@ -1,6 +1,6 @@
 -- The plan as text (01, "The plan program and its text"), in ASCII: "one space parts the fields, and every line ends in one line feed".
 use Prim.Native.Nat.{ℕ, zero, suc}
-use mathlib.Core.Bool.{Bool, cond}
+use mathlib.Core.Bool.{cond}
 use mathlib.Core.List.{List, [], _∷_, _++_}
 use lib.Dec.{eqb}
 use lib.ListN.{getD}

@@ -1,8 +1,178 @@
 // The plan as text.
+use planner::Plan;
+ghost use mathlib.Core.Path.{_≡_};
+ghost use Prim.Native.Nat.{_+_, _*_, _≤_, _<_};
+ghost use mathlib.Core.List.{_++_};
+ghost use lib.ListN.{length};
+ghost use Rattle.policy.specs.File.{nameOf};
+ghost use Rattle.text.specs.Decimal.{decimal};
+ghost use Rattle.text.specs.Listing.{space, unpadded, parentName, line, lines, listing};
+ghost use Rattle.text.specs.Answer.{writtenOf, bufferAfter};
+ghost use Rattle.text.specs.Put.{Put, Printable, worded, names, numbers};
 
 // The length of the text, or 16 and 0 when the buffer has no room for it.
 #[repr(C)]
 pub struct Written {
     pub refusal: u8,
     pub length: usize,
+}
+
+// Writes bytes from `at` on, and answers the place behind them.
+fn put_bytes(out: &mut [u8], at: usize, bytes: &[u8]) -> usize
+    requires { ⌜ at + length (now bytes) ≤ length (now out) ⌝ }
+    ensures { λ r. ⌜ Put (now (out .entry)) (now (out .exit)) at (now (bytes .entry)) r ⌝ }
+{
+    let end = at + bytes.len();
+    bytes::copy(bytes, &mut out[at..end]);
+    end
+}
+
+// How many bytes stand before a name's first space.
+fn unpadded_length(name: &[u8]) -> usize
+    ensures { λ r. ⌜ r ≡ length (unpadded (now (name .entry))) ⌝ }
+{
+    let mut i = 0;
+    while i < name.len() {
+        if name[i] == b' ' {
+            return i;
+        }
+        i += 1;
+    }
+    i
+}
+
+// Writes the name of label `m` without its padding.
+fn put_name(policy: &[u8], m: usize, out: &mut [u8], at: usize) -> usize
+    requires { ⌜ (12 * m + 12 ≤ length (now policy)) × (at + length (unpadded (nameOf (now policy) m)) ≤ length (now out)) ⌝ }
+    ensures { λ r. ⌜ Put (now (out .entry)) (now (out .exit)) at (unpadded (nameOf (now (policy .entry)) m)) r ⌝ }
+{
+    let name = format::read_name(policy, 12 * m + 2);
+    let end = unpadded_length(&name);
+    put_bytes(out, at, &name[..end])
+}
+
+// Writes a number in decimal.
+fn put_decimal(out: &mut [u8], at: usize, x: u32) -> usize
+    requires { ⌜ at + length (decimal x) ≤ length (now out) ⌝ }
+    ensures { λ r. ⌜ Put (now (out .entry)) (now (out .exit)) at (decimal x) r ⌝ }
+{
+    let mut digits = [0u8; 10];
+    let mut i = 9;
+    let mut rest = x;
+    while 10 <= rest {
+        digits[i] = 48 + (rest % 10) as u8;
+        rest /= 10;
+        i -= 1;
+    }
+    digits[i] = 48 + rest as u8;
+    put_bytes(out, at, &digits[i..])
+}
+
+// Writes a space and a number.
+fn put_number(out: &mut [u8], at: usize, x: u32) -> usize
+    requires { ⌜ at + length (space ++ decimal x) ≤ length (now out) ⌝ }
+    ensures { λ r. ⌜ Put (now (out .entry)) (now (out .exit)) at (space ++ decimal x) r ⌝ }
+{
+    let behind = put_bytes(out, at, b" ");
+    put_decimal(out, behind, x)
+}
+
+// Writes a line of a word and a number.
+fn put_worded(out: &mut [u8], at: usize, word: &[u8], x: u32) -> usize
+    requires { ⌜ at + length (worded (now word) x) ≤ length (now out) ⌝ }
+    ensures { λ r. ⌜ Put (now (out .entry)) (now (out .exit)) at (worded (now (word .entry)) x) r ⌝ }
+{
+    let behind = put_bytes(out, at, word);
+    let end = put_number(out, behind, x);
+    put_bytes(out, end, b"\n")
+}
+
+// Writes the name of label `m`'s parent, `-` for the top.
+fn put_parent(policy: &[u8], plan: Plan, m: usize, out: &mut [u8], at: usize) -> usize
+    requires { ⌜ Printable (now policy) plan × (m < plan .labels) × (at + length (parentName (now policy) plan m) ≤ length (now out)) ⌝ }
+    ensures { λ r. ⌜ Put (now (out .entry)) (now (out .exit)) at (parentName (now (policy .entry)) plan m) r ⌝ }
+{
+    if m == 0 {
+        return put_bytes(out, at, b"-");
+    }
+    let parent = plan.parents[m] as usize;
+    put_name(policy, parent, out, at)
+}
+
+// Writes the name of label `m`, a space and its parent's name.
+fn put_names(policy: &[u8], plan: Plan, m: usize, out: &mut [u8], at: usize) -> usize
+    requires { ⌜ Printable (now policy) plan × (m < plan .labels) × (at + length (names (now policy) plan m) ≤ length (now out)) ⌝ }
+    ensures { λ r. ⌜ Put (now (out .entry)) (now (out .exit)) at (names (now (policy .entry)) plan m) r ⌝ }
+{
+    let behind = put_name(policy, m, out, at);
+    let parent = put_bytes(out, behind, b" ");
+    put_parent(policy, plan, m, out, parent)
+}
+
+// Writes three numbers, each behind a space.
+fn put_numbers(out: &mut [u8], at: usize, weight: u32, size: u32, count: u32) -> usize
+    requires { ⌜ at + length (numbers weight size count) ≤ length (now out) ⌝ }
+    ensures { λ r. ⌜ Put (now (out .entry)) (now (out .exit)) at (numbers weight size count) r ⌝ }
+{
+    let behind = put_number(out, at, weight);
+    let accounts = put_number(out, behind, size);
+    put_number(out, accounts, count)
+}
+
+// Writes the line of label `m`.
+fn put_line(policy: &[u8], plan: Plan, m: usize, out: &mut [u8], at: usize) -> usize
+    requires { ⌜ Printable (now policy) plan × (m < plan .labels) × (at + length (line (now policy) plan m) ≤ length (now out)) ⌝ }
+    ensures { λ r. ⌜ Put (now (out .entry)) (now (out .exit)) at (line (now (policy .entry)) plan m) r ⌝ }
+{
+    let weight = plan.weights[m];
+    let size = plan.sizes[m] as u32;
+    let count = format::read_number(policy, 12 * m + 10) as u32;
+    let behind = put_names(policy, plan, m, out, at);
+    let line_end = put_numbers(out, behind, weight, size, count);
+    put_bytes(out, line_end, b"\n")
+}
+
+// Writes the lines of all labels from the buffer's start on.
+fn put_lines(policy: &[u8], plan: Plan, out: &mut [u8]) -> usize
+    requires { ⌜ Printable (now policy) plan × (length (lines (now policy) plan (plan .labels)) ≤ length (now out)) ⌝ }
+    ensures { λ r. ⌜ Put (now (out .entry)) (now (out .exit)) 0 (lines (now (policy .entry)) plan (plan .labels)) r ⌝ }
+{
+    let labels = plan.labels;
+    let mut at = 0;
+    let mut m = 0;
+    while m < labels {
+        at = put_line(policy, plan, m, out, at);
+        m += 1;
+    }
+    at
+}
+
+// Writes the text of a policy file and its plan from the buffer's start on.
+fn write_text(policy: &[u8], plan: Plan, out: &mut [u8]) -> usize
+    requires { ⌜ Printable (now policy) plan × (length (listing (now policy) plan) ≤ length (now out)) ⌝ }
+    ensures { λ r. ⌜ Put (now (out .entry)) (now (out .exit)) 0 (listing (now (policy .entry)) plan) r ⌝ }
+{
+    if plan.refusal != 0 {
+        return put_worded(out, 0, b"REFUSED", plan.refusal as u32);
+    }
+    let behind = put_lines(policy, plan, out);
+    put_worded(out, behind, b"TOTAL", plan.total)
+}
+
+// Writes the text of a policy file from the buffer's start on. A buffer that has no room for it stays as it was.
+// No text has more than 3,281 bytes.
+pub fn plan_text(policy: &[u8], out: &mut [u8]) -> Written
+    ensures { λ r. ⌜ (r ≡ writtenOf (now (policy .entry)) (length (now (out .entry)))) × (now (out .exit) ≡ bufferAfter (now (policy .entry)) (now (out .entry))) ⌝ }
+{
+    let plan = planner::plan_policy(policy);
+    let mut text = [0u8; 4096];
+    let length = write_text(policy, plan, &mut text);
+    if out.len() < length {
+        return Written {
+            refusal: 16,
+            length: 0,
+        };
+    }
+    put_bytes(out, 0, &text[..length]);
+    Written { refusal: 0, length }
 }

@@ -1,6 +1,7 @@
 // Runs the vectors of FIPS 180-4 and RFC 4231 and the worked examples of document 01 that are run and not
 // proved, one line a case. What it has to write is in the file stdout.
 mod hashes;
+mod plans;
 mod policies;
 mod print;
 
@@ -11,4 +12,6 @@ fn main() {
     hashes::long_key_cases();
     policies::policy_cases();
     policies::limit_cases();
+    plans::plan_cases();
+    plans::tree_cases();
 }

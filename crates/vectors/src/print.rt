@@ -1,4 +1,6 @@
 // One line for each answer.
+use planner::Plan;
+use planner::Weighed;
 use policy::Policy;
 use sha256::Digest;
 
@@ -51,6 +53,60 @@ pub(crate) fn policy_sizes(name: &[u8], p: Policy) {
         io::write_all(1, b" pairs");
     } else {
         refused(p.refusal);
+    }
+    io::write_all(1, b"\n");
+}
+
+// A label's parent, weight and set size.
+fn planned_label(parent: u8, weight: u32, size: u8) {
+    io::print_decimal(1, wide(parent));
+    io::write_all(1, b" ");
+    io::print_decimal(1, weight as u64);
+    io::write_all(1, b" ");
+    io::print_decimal(1, wide(size));
+    io::write_all(1, b", ");
+}
+
+fn planned_labels(labels: usize, parents: [u8; 64], weights: [u32; 64], sizes: [u8; 64]) {
+    let mut m = 0;
+    while m < 64 {
+        if m < labels {
+            planned_label(parents[m], weights[m], sizes[m]);
+        }
+        m += 1;
+    }
+}
+
+// The case's name, for each label its parent, weight and set size, and the total; or the refusal.
+pub(crate) fn planned(name: &[u8], p: Plan) {
+    io::write_all(1, name);
+    io::write_all(1, b": ");
+    if p.refusal == 0 {
+        let parents = p.parents;
+        let weights = p.weights;
+        let sizes = p.sizes;
+        planned_labels(p.labels, parents, weights, sizes);
+        io::write_all(1, b"total ");
+        io::print_decimal(1, p.total as u64);
+    } else {
+        refused(p.refusal);
+    }
+    io::write_all(1, b"\n");
+}
+
+// The case's name, and the tree's total and whether it is the least, or the refusal.
+pub(crate) fn weighed(name: &[u8], w: Weighed) {
+    io::write_all(1, name);
+    io::write_all(1, b": ");
+    if w.refusal == 0 {
+        io::print_decimal(1, w.total as u64);
+        if w.least {
+            io::write_all(1, b", least");
+        } else {
+            io::write_all(1, b", not least");
+        }
+    } else {
+        refused(w.refusal);
     }
     io::write_all(1, b"\n");
 }

@@ -1,7 +1,8 @@
 -- What is worked out of a label count n, the accounts count and the test le of an order, as tables of 64 entries: those past the labels are 0.
-use Prim.Native.Nat.{ℕ, _*_, _<_}
-use mathlib.Core.Bool.{Bool, cond}
+use Prim.Native.Nat.{ℕ, _*_, _≤_, _<_}
+use mathlib.Core.Bool.{Bool, true, cond}
 use mathlib.Core.List.{List}
+use mathlib.Core.Path.{_≡_}
 use lib.Dec.{eqb}
 use lib.ListN.{length, getD}
 use Rattle.lists.specs.Tables.{filled}
@@ -41,3 +42,7 @@ keyTotal n count size = sum (accountKeys count size) n
 -- every parent in the table has a row in the order's table
 abbrev pub Rowed : ℕ → List ℕ → Type 0
 Rowed n parents = (m : ℕ) → m < n → entries parents m < 64
+
+-- no label is at or below one of a larger number
+abbrev pub Falls : (ℕ → ℕ → Bool) → Type 0
+Falls le = (m l : ℕ) → le m l ≡ true → l ≤ m

@@ -1,41 +1,37 @@
--- `order::label_row` meets its contract. The loop's invariant: the whole row is what is made so far with what the pairs from i on add.
+-- `order::label_row` meets its contract. The loop's invariant: the row has what the labels before next add.
 use Prim.Native.Nat.{_≤_, _-_}
-use mathlib.Core.Path.{_≡_, refl, sym, ap, _∙_}
+use mathlib.Core.Path.{_≡_, refl, ap, _∙_}
 use borrow.Author.Needs.{needs}
 use native.Mathlib.Omega.{arith}
-use lib.ListN.{take, drop}
-use Rattle.order.specs.Table.{joined, labelRow, withPairs}
-use Rattle.order.proofs.Turns.{leads-down, not-smaller, other-lower, none-left}
+use Rattle.order.specs.Table.{entryAt, joined, rowUpTo, labelRow}
+use Rattle.order.proofs.Turns.{label-added, label-left}
 use Rattle.order.proofs.label_row.Statement.{statement}
 use Rattle.order.proofs.label_row.Tie as tie
 
 abbrev Inv-loop : tie.InvT-loop
-Inv-loop rows m pairs over row₀ i₀ row i = (i ≤ pairs) × (labelRow rows (take pairs over) m ≡ withPairs rows m row (drop i (take pairs over)))
+Inv-loop rows links m row₀ next₀ row next = (next ≤ m) × (row ≡ rowUpTo rows (entryAt links m) m next)
 
 abbrev μ-loop : tie.MeasureT-loop
-μ-loop rows m pairs over row₀ i₀ row i = pairs - i
+μ-loop rows links m row₀ next₀ row next = m - next
 
 alone-requires : tie.Need-alone-requires Inv-loop μ-loop
 alone-requires c κs = search needs
 
 loop-holds : tie.Need-loop-holds Inv-loop μ-loop
-unfolding labelRow
+unfolding rowUpTo
 loop-holds c = (omega arith, rw (c .alone .ensures) refl)
 
-mul-pair : tie.Need-mul-pair Inv-loop μ-loop
-mul-pair c = search needs
+add-next : tie.Need-add-next Inv-loop μ-loop
+add-next c = search needs
 
-array-copy-out-pair : tie.Need-array-copy-out-pair Inv-loop μ-loop
-array-copy-out-pair c = search needs
+mul-if1 : tie.Need-mul-if1 Inv-loop μ-loop
+mul-if1 c = search needs
 
-wide-requires : tie.Need-wide-requires Inv-loop μ-loop
-wide-requires c κs = search needs
+index-1-if1 : tie.Need-index-1-if1 Inv-loop μ-loop
+index-1-if1 c = search needs
 
-wide-requires-2 : tie.Need-wide-requires-2 Inv-loop μ-loop
-wide-requires-2 c κs = search needs
-
-add-i : tie.Need-add-i Inv-loop μ-loop
-add-i c = search needs
+index-2-if1 : tie.Need-index-2-if1 Inv-loop μ-loop
+index-2-if1 c = search needs
 
 row-at-requires : tie.Need-row-at-requires Inv-loop μ-loop
 row-at-requires c κs = search needs
@@ -48,15 +44,12 @@ loop-less c = search needs
 
 loop-again : tie.Need-loop-again Inv-loop μ-loop
 loop-again c =
-    let w = c .before .before .before .before in
-    let b = w .before .before .before .before in
+    let b = c .before .before .before .before .before in
     let h = b .loop in
-    let a = b .before .before .args in
-    let next = c .joined .ensures ∙ ap (joined (h .row)) (c .before .row-at .ensures) in (
+    let a = b .before .before .args in (
       omega arith,
-      h .inv .1 ∙ leads-down (a .rows .now) (a .m) (h .row) (a .t4) (a .pairs) (h .i) (omega arith) (omega arith)
-          (w .before .wide .result) (w .wide2 .result) (c .joined .result) (w .before .wide .ensures) (w .wide2 .ensures)
-          (c .before .before .before .if1 .taken) (c .before .before .if2 .taken) next,
+      label-added (a .rows .now) (entryAt (a .links .now) (a .m)) (a .m) (h .next) (h .row) (h .inv .1) (c .joined .result)
+          (c .before .before .if1 .taken) (c .joined .ensures ∙ ap (joined (h .row)) (c .before .row-at .ensures)),
     )
 
 loop-less-2 : tie.Need-loop-less-2 Inv-loop μ-loop
@@ -64,34 +57,17 @@ loop-less-2 c = search needs
 
 loop-again-2 : tie.Need-loop-again-2 Inv-loop μ-loop
 loop-again-2 c =
-    let w = c .before .before .before in
-    let b = w .before .before .before in
+    let b = c .before .before .before in
     let h = b .loop in
-    let a = b .before .before .args in (
-      omega arith,
-      h .inv .1 ∙ not-smaller (a .rows .now) (a .m) (h .row) (a .t4) (a .pairs) (h .i) (omega arith) (omega arith)
-          (w .wide .result) (w .wide .ensures) (c .if2 .left),
-    )
-
-loop-less-3 : tie.Need-loop-less-3 Inv-loop μ-loop
-loop-less-3 c = search needs
-
-loop-again-3 : tie.Need-loop-again-3 Inv-loop μ-loop
-loop-again-3 c =
-    let w = c .before in
-    let b = w .before .before .before .before in
-    let h = b .loop in
-    let a = b .before .before .args in (
-      omega arith,
-      h .inv .1 ∙ other-lower (a .rows .now) (a .m) (h .row) (a .t4) (a .pairs) (h .i) (omega arith) (omega arith)
-          (w .wide2 .result) (w .wide2 .ensures) (c .if1 .left),
-    )
+    let a = b .before .before .args in
+    (omega arith, label-left (a .rows .now) (entryAt (a .links .now) (a .m)) (a .m) (h .next) (h .row) (h .inv .1) (c .if1 .left))
 
 returns : tie.Need-returns Inv-loop μ-loop
+unfolding labelRow
 returns c =
     let h = c .before .loop in
-    let a = c .before .before .before .args in
-    sym (h .inv .1 ∙ none-left (a .rows .now) (a .m) (h .row) (a .t4) (a .pairs) (h .i) (c .loop-test .left))
+    let e : h .next ≡ c .before .before .before .args .m = omega arith in
+    rw e at (h .inv .1)
 
 pub label-row-spec : {M : Type 1} → statement M
 label-row-spec =
@@ -101,17 +77,14 @@ label-row-spec =
     μ-loop
     alone-requires
     loop-holds
-    mul-pair
-    array-copy-out-pair
-    wide-requires
-    wide-requires-2
-    add-i
+    add-next
+    mul-if1
+    index-1-if1
+    index-2-if1
     row-at-requires
     joined-requires
     loop-less
     loop-again
     loop-less-2
     loop-again-2
-    loop-less-3
-    loop-again-3
     returns)

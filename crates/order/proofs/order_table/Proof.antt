@@ -3,23 +3,25 @@ use Prim.Native.Nat.{_≤_, _-_}
 use mathlib.Core.Path.{_≡_, refl}
 use borrow.Author.Needs.{needs}
 use native.Mathlib.Omega.{arith}
-use lib.ListN.{take}
-use Rattle.order.specs.Table.{rowsBelow}
+use Rattle.order.specs.Table.{entryAt, rowsBelow}
 use Rattle.order.proofs.Turns.{row-more, rows-whole}
 use Rattle.order.proofs.order_table.Statement.{statement}
 use Rattle.order.proofs.order_table.Tie as tie
 
 abbrev Inv-loop : tie.InvT-loop
-Inv-loop labels pairs over rows₀ n k m₀ rows m = (m ≤ n) × (rows ≡ rowsBelow m (take k over))
+Inv-loop labels pairs rows₀ n links m₀ rows m = (m ≤ n) × (rows ≡ rowsBelow m (entryAt links))
 
 abbrev μ-loop : tie.MeasureT-loop
-μ-loop labels pairs over rows₀ n k m₀ rows m = n - m
+μ-loop labels pairs rows₀ n links m₀ rows m = n - m
 
 at-most-requires : tie.Need-at-most-requires Inv-loop μ-loop
 at-most-requires c κs = search needs
 
 at-most-requires-2 : tie.Need-at-most-requires-2 Inv-loop μ-loop
 at-most-requires-2 c κs = search needs
+
+links-requires : tie.Need-links-requires Inv-loop μ-loop
+links-requires c κs = rw (c .at-most2 .ensures) (omega arith)
 
 loop-holds : tie.Need-loop-holds Inv-loop μ-loop
 unfolding rowsBelow
@@ -42,17 +44,19 @@ loop-less c = search needs
 
 loop-again : tie.Need-loop-again Inv-loop μ-loop
 loop-again c =
-    let h = c .before .before .before .loop in
-    let b = c .before .before .before .before in
-    (omega arith, row-more (h .rows) (c .label-row .result) (take (b .at-most2 .result) (b .before .before .args .over)) (h .m) (h .inv .1) (c .label-row .ensures))
+    let h = c .before .before .before .before .loop in
+    let b = c .before .before .before .before .before in
+    (omega arith, row-more (h .rows) (c .label-row .result) (entryAt (b .links .result)) (h .m) (h .inv .1) (c .label-row .ensures))
 
 returns : tie.Need-returns Inv-loop μ-loop
 returns c =
     let h = c .before .loop in
     let b = c .before .before in
-    let a = b .before .before .args in
-    rows-whole (h .rows) (a .over) (a .labels) (a .pairs) (b .before .at-most .result) (b .at-most2 .result) (h .m)
-    (omega arith) (b .before .at-most .ensures) (b .at-most2 .ensures) (omega arith) (h .inv .1)
+    let k = b .before .at-most2 in
+    let n = b .before .before .at-most in
+    let a = b .before .before .before .args in
+    rows-whole (h .rows) (b .links .result) (a .over) (a .labels) (a .pairs) (n .result) (k .result) (h .m)
+    (omega arith) (n .ensures) (k .ensures) (omega arith) (b .links .ensures) (h .inv .1)
 
 pub order-table-spec : {M : Type 1} → statement M
 order-table-spec =
@@ -62,6 +66,7 @@ order-table-spec =
     μ-loop
     at-most-requires
     at-most-requires-2
+    links-requires
     loop-holds
     label-row-requires
     mul-rows

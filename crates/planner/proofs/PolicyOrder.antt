@@ -1,11 +1,7 @@
 -- The order of an accepted policy file is one that the theory of trees speaks of: the chain of its `OV` records is what is meant,
 -- the table is what is tested.
-use Prim.Native.Nat.{ℕ, _≤_, _<_}
-use mathlib.Core.Bool.{true}
+use Prim.Native.Nat.{ℕ}
 use mathlib.Core.List.{List}
-use mathlib.Core.Logic.{_↔_}
-use mathlib.Core.Path.{_≡_}
-use native.Mathlib.Omega.{arith}
 use Rattle.order.proofs.Order.{at-or-below-refl, at-or-below-trans, at-or-below-le, at-or-below-top}
 use Rattle.order.specs.Order.{AtOrBelow}
 use Rattle.order.specs.Table.{atOrBelow}

@@ -1,0 +1,15 @@
+// Prints the plan of the policy on standard input.
+use libc::STDIN_FILENO;
+use libc::STDOUT_FILENO;
+
+fn main() {
+    // More than the 2,828 bytes that decide (`text-front`, crate text).
+    let mut policy = io::buffer();
+    let length = io::read_full(STDIN_FILENO, &mut policy);
+    // 4,096 bytes suffice (`text-suffices`, crate text).
+    let mut out = io::buffer();
+    let written = text::plan_text(&policy[..length], &mut out);
+    if !io::write_all(STDOUT_FILENO, &out[..written.length]) {
+        os::fail(b"plan");
+    }
+}

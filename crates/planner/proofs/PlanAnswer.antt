@@ -1,0 +1,147 @@
+-- What `plan` answers for a policy file: demand 3's "The plan's tree hangs so and its total is the fewest" of the tables in the answer, and
+-- zeros for a refused file.
+use Prim.Native.Nat.{ℕ, _+_, _^_, _≤_, _<_}
+use mathlib.Core.Bool.{Bool, not}
+use mathlib.Core.List.{List}
+use mathlib.Core.Logic.{_≢_}
+use mathlib.Core.Path.{_≡_, refl, sym, ap, ap₂, subst, _∙_}
+use native.Mathlib.Omega.{arith}
+use borrow.Author.Tests.{ne-eqb, eqb-false, not-true}
+use lib.Dec.{eqb}
+use lib.ListN.{length, getD}
+use Rattle.lists.proofs.Tables.{getD-filled, getD-past}
+use Rattle.lists.specs.Tables.{listed}
+use Rattle.order.specs.Order.{AtOrBelow}
+use Rattle.policy.proofs.Demand1.{refused-zeros}
+use Rattle.policy.proofs.Lawful.{count-small}
+use Rattle.policy.proofs.Verdict.{bounds}
+use Rattle.policy.specs.File.{countOf}
+use Rattle.policy.specs.Whole.{refusalOf, labelsOf, pairsOf, Accepted, policyOf}
+use Rattle.policy.specs.declared.Policy.{Policy}
+use Rattle.trees.proofs.Fewest.{hangs-tree, least-fewest, plan-hangs, plan-lowest}
+use Rattle.trees.proofs.Sums.{sum-apart, sumWhere-where}
+use Rattle.trees.proofs.Tables.{SameParents, total-agree, smallest-agree}
+use Rattle.trees.proofs.Totals.{total-weights}
+use Rattle.trees.proofs.Widths.{total-bound}
+use Rattle.trees.specs.Order.{Order}
+use Rattle.trees.specs.Sums.{sum, sumWhere}
+use Rattle.trees.specs.Trees.{top, Tree, Fewest}
+use Rattle.trees.specs.Weights.{weight, smallest, total, weights, LeastWeight, HangsLeast}
+use Rattle.weights.specs.Tables.{entries, heldWeight, weightTable, setSize, sizeTable}
+use Rattle.planner.proofs.PolicyOrder.{policy-order}
+use Rattle.planner.specs.Planned.{testOf, planTree, treeTotal, planOf, refusedPlan}
+
+-- ---- an accepted policy
+
+module _ (file : List ℕ) (ok : Accepted file) where
+  abbrev n : ℕ
+  n = labelsOf file
+
+  abbrev count : ℕ → ℕ
+  count = countOf file
+
+  abbrev R : ℕ → ℕ → Type 0
+  R = AtOrBelow (pairsOf file)
+
+  abbrev le : ℕ → ℕ → Bool
+  le = testOf file
+
+  abbrev parents : ℕ → ℕ
+  parents = entries (planOf file .parents)
+
+  order : Order n R le
+  order = policy-order file ok
+
+  -- the tree that is defined hangs from parents of least weight
+  tree-hangs : HangsLeast n count R le (planTree file)
+  unfolding planTree
+  tree-hangs = plan-hangs order count
+
+  -- and the table holds it
+  parents-same : SameParents n (planTree file) parents
+  unfolding planOf
+  parents-same = record {
+    labels = λ m hm ne. tree-hangs .hangs m hm ne .above .label;
+    agree = λ m hm ne. sym (getD-filled (planTree file) 64 0 n m 0 hm);
+  }
+
+  -- "The plan's tree hangs so"
+  pub plan-answer-hangs : HangsLeast n count R le parents
+  plan-answer-hangs = record {
+    hangs = λ m hm ne. subst (λ (p : ℕ). LeastWeight n count R le p m) (parents-same .agree m hm ne) (tree-hangs .hangs m hm ne);
+  }
+
+  pub plan-answer-tree : Tree n R parents
+  plan-answer-tree = hangs-tree plan-answer-hangs
+
+  -- 01: "of several, the one with the lowest number"
+  pub plan-answer-lowest : (m : ℕ) → m < n → m ≢ top → (q : ℕ) → LeastWeight n count R le q m → parents m ≤ q
+  unfolding planTree
+  plan-answer-lowest m hm ne q L = subst (λ (p : ℕ). p ≤ q) (parents-same .agree m hm ne) (plan-lowest order count m hm ne q L)
+
+  -- "and its total is the fewest"
+  pub plan-answer-total : planOf file .total ≡ total n count le parents
+  unfolding planOf treeTotal
+  plan-answer-total = total-agree (λ l hl. refl) (λ m l hm hl. refl) parents-same
+
+  pub plan-answer-fewest : Fewest n count R (planOf file .total)
+  plan-answer-fewest = rw plan-answer-total (least-fewest order count plan-answer-hangs)
+
+  -- 01: "weight (for the top its accounts), keys held by one account"
+  pub plan-answer-weights : (m : ℕ) → m < n → m ≢ top → entries (planOf file .weights) m ≡ weight n count le (parents m) m
+  unfolding planOf weightTable heldWeight
+  plan-answer-weights m hm ne =
+      getD-filled (heldWeight n count le (planTree file)) 64 0 n m 0 hm
+      ∙ rw (ne-eqb m top ne) (ap (λ (p : ℕ). weight n count le p m) (parents-same .agree m hm ne))
+
+  pub plan-answer-top-weight : entries (planOf file .weights) top ≡ count top
+  unfolding planOf weightTable heldWeight
+  plan-answer-top-weight = getD-filled (heldWeight n count le (planTree file)) 64 0 n top 0 (order .some)
+
+  pub plan-answer-sizes : (l : ℕ) → l < n → entries (planOf file .sizes) l ≡ length (smallest n le parents l)
+  unfolding planOf sizeTable setSize
+  plan-answer-sizes l hl =
+      getD-filled (setSize n le (planTree file)) 64 0 n l 0 hl
+      ∙ ap (length {A = ℕ}) (smallest-agree {count = count} {count′ = count} (λ l hl. refl) (λ m l hm hl. refl) parents-same l hl)
+
+  -- 01: "It equals the top's accounts plus the weights of all chosen parents."
+  pub plan-answer-sum : planOf file .total ≡ sum (entries (planOf file .weights)) n
+  unfolding weights
+  plan-answer-sum =
+      plan-answer-total
+      ∙ total-weights order count parents
+      ∙ ap₂ _+_ (sym plan-answer-top-weight) (sym others)
+      ∙ sym (sum-apart (entries (planOf file .weights)) top n (order .some))
+    where
+      others : sumWhere (λ m. not (eqb m top)) (entries (planOf file .weights)) n ≡ sumWhere (λ m. not (eqb m top)) (λ m. weight n count le (parents m) m) n
+      others =
+          sumWhere-where (λ m. not (eqb m top)) (entries (planOf file .weights)) (λ m. weight n count le (parents m) m) n
+          (λ m hm y. plan-answer-weights m hm (eqb-false m top (not-true (eqb m top) y)))
+
+-- ---- every file
+
+module _ (file : List ℕ) where
+  -- "Entries past the label count are 0"
+  pub plan-answer-past : (m : ℕ) → labelsOf file ≤ m
+      → (entries (planOf file .parents) m ≡ 0) × (entries (planOf file .weights) m ≡ 0) × (entries (planOf file .sizes) m ≡ 0)
+  unfolding planOf weightTable sizeTable
+  plan-answer-past m h = (
+    getD-past (planTree file) 64 0 (labelsOf file) m h,
+    getD-past (heldWeight (labelsOf file) (countOf file) (testOf file) (planTree file)) 64 0 (labelsOf file) m h,
+    getD-past (setSize (labelsOf file) (testOf file) (planTree file)) 64 0 (labelsOf file) m h,
+  )
+
+  -- a total has its place in 32 bits, with room to spare
+  pub plan-total-small : ((i : ℕ) → getD file i 0 < 256) → planOf file .total < 2 ^ 28
+  unfolding planOf treeTotal
+  plan-total-small bytes =
+      total-bound (labelsOf file) (bounds file .0) (testOf file) (countOf file) (λ l hl. omega (arith, count-small file bytes l)) (planTree file)
+
+  no-labels : 0 < refusalOf file → labelsOf file ≡ 0
+  unfolding policyOf
+  no-labels h = ap (λ (p : Policy). p .labels) (refused-zeros file h)
+
+  -- "With a refusal every number in the answer is 0"
+  pub plan-refused : 0 < refusalOf file → planOf file ≡ refusedPlan (refusalOf file)
+  unfolding planOf treeTotal weightTable sizeTable listed total sum
+  plan-refused h = rw (no-labels h)

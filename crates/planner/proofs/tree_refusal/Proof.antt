@@ -1,0 +1,104 @@
+-- `planner::tree_refusal` meets its contract. Invariant: the bytes of the labels below m are in order.
+use Prim.Native.Nat.{_-_, _≤_}
+use mathlib.Core.Bool.{true}
+use mathlib.Core.Path.{_≡_, sym, _∙_}
+use native.Mathlib.Omega.{arith}
+use borrow.Author.Needs.{needs}
+use borrow.Author.Tests.{not-true, not-false}
+use denote.Ref.{now}
+use Rattle.lists.proofs.Tables.{every-more, every-fewer, every-all}
+use Rattle.lists.specs.Tables.{everyBelow}
+use Rattle.order.specs.Table.{atOrBelow}
+use Rattle.planner.proofs.TreeChecks.{number-short, number-foreign, number-length, number-byte, number-none}
+use Rattle.planner.proofs.tree_refusal.Statement.{statement}
+use Rattle.planner.proofs.tree_refusal.Tie as tie
+use Rattle.planner.specs.TreeFile.{hangsAt}
+
+abbrev Inv-loop : tie.InvT-loop
+Inv-loop labels rows tree m₀ m = (m ≤ labels) × (everyBelow (hangsAt (atOrBelow rows) tree) m ≡ true)
+
+abbrev μ-loop : tie.MeasureT-loop
+μ-loop labels rows tree m₀ m = labels - m
+
+returns : tie.Need-returns Inv-loop μ-loop
+returns c =
+    let a = c .before .before .args in
+    sym (number-short (a .labels) (atOrBelow (now (a .rows))) (now (a .tree)) (omega arith))
+
+slice-aggregate-stands : tie.Need-slice-aggregate-stands Inv-loop μ-loop
+slice-aggregate-stands c = search needs
+
+stands-requires : tie.Need-stands-requires Inv-loop μ-loop
+stands-requires c κs = search needs
+
+returns-2 : tie.Need-returns-2 Inv-loop μ-loop
+returns-2 c =
+    let a = c .before .before .before .before .before .args in
+    sym (number-foreign (a .labels) (atOrBelow (now (a .rows))) (now (a .tree)) (omega arith)
+    (sym (c .before .stands .ensures) ∙ not-true _ (c .if2 .taken)))
+
+add-if3 : tie.Need-add-if3 Inv-loop μ-loop
+add-if3 c = omega arith
+
+returns-3 : tie.Need-returns-3 Inv-loop μ-loop
+returns-3 c =
+    let a = c .before .before .before .before .before .before .args in
+    sym (number-length (a .labels) (atOrBelow (now (a .rows))) (now (a .tree)) (omega arith)
+    (sym (c .before .before .stands .ensures) ∙ not-false _ (c .before .if2 .left)) (λ e. omega arith))
+
+loop-holds : tie.Need-loop-holds Inv-loop μ-loop
+loop-holds c = (omega arith, every-all _ 0 (λ k l. absurd (omega arith)))
+
+hangs-at-requires : tie.Need-hangs-at-requires Inv-loop μ-loop
+hangs-at-requires c κs = omega arith
+
+returns-4 : tie.Need-returns-4 Inv-loop μ-loop
+returns-4 c =
+    let l = c .before .before .before .loop in
+    let a = c .before .before .before .before .before .before .before .before .before .before .args in
+    sym (number-byte (a .labels) (atOrBelow (now (a .rows))) (now (a .tree)) (omega arith)
+    (sym (c .before .before .before .before .before .before .stands .ensures) ∙ not-false _ (c .before .before .before .before .before .if2 .left)) (omega arith)
+    (l .m) (omega arith) (sym (c .before .hangs-at .ensures) ∙ not-true _ (c .if4 .taken)))
+
+add-m : tie.Need-add-m Inv-loop μ-loop
+add-m c = omega arith
+
+loop-less : tie.Need-loop-less Inv-loop μ-loop
+loop-less c = omega arith
+
+loop-again : tie.Need-loop-again Inv-loop μ-loop
+loop-again c =
+    let l = c .before .before .before .loop in
+    let a = c .before .before .before .before .before .before .before .before .before .before .args in (
+      omega arith,
+      every-more (hangsAt (atOrBelow (now (a .rows))) (now (a .tree))) (l .m) (l .inv .1)
+          (sym (c .before .hangs-at .ensures) ∙ not-false _ (c .if4 .left)),
+    )
+
+returns-5 : tie.Need-returns-5 Inv-loop μ-loop
+returns-5 c =
+    let l = c .before .loop in
+    let a = c .before .before .before .before .before .before .before .before .args in
+    sym (number-none (a .labels) (atOrBelow (now (a .rows))) (now (a .tree)) (omega arith)
+    (sym (c .before .before .before .before .stands .ensures) ∙ not-false _ (c .before .before .before .if2 .left)) (omega arith)
+    (every-fewer (hangsAt (atOrBelow (now (a .rows))) (now (a .tree))) (a .labels) (l .m) (omega arith) (l .inv .1)))
+
+pub tree-refusal-spec : {M : Type 1} → statement M
+tree-refusal-spec =
+    tie.close
+    (tie.spec
+    Inv-loop
+    μ-loop
+    returns
+    slice-aggregate-stands
+    stands-requires
+    returns-2
+    add-if3
+    returns-3
+    loop-holds
+    hangs-at-requires
+    returns-4
+    add-m
+    loop-less
+    loop-again
+    returns-5)

@@ -1,0 +1,122 @@
+-- `planner::weigh` meets its contract: each refusal in its turn, then what is worked out is the definition's.
+use mathlib.Core.Path.{sym, ap, _∙_}
+use native.Mathlib.Omega.{arith}
+use borrow.Author.Needs.{needs}
+use denote.Ref.{now}
+use Rattle.order.proofs.Exact.{table-falls}
+use Rattle.policy.proofs.Verdict.{bounds}
+use Rattle.policy.specs.Whole.{policyOf}
+use Rattle.policy.specs.declared.Policy.{Policy}
+use Rattle.planner.proofs.WorkedTables.{table-rowed, read-few, read-accepted, read-order, read-number, gives, offered-rowed, worked-answer}
+use Rattle.planner.proofs.WeighAnswer.{weigh-policy-refused, weigh-tree-refused}
+use Rattle.planner.proofs.weigh.Statement.{statement}
+use Rattle.planner.proofs.weigh.Tie as tie
+use Rattle.planner.specs.Weighing.{refusedWeighed}
+
+read-policy-requires : tie.Need-read-policy-requires
+read-policy-requires c κs = search needs
+
+refused-requires : tie.Need-refused-requires
+refused-requires c κs = search needs
+
+returns : tie.Need-returns
+unfolding policyOf
+returns c =
+    let a = c .before .before .before .before .before .before .args in
+    let file = now (a .policy) in
+    let same = ap (λ (p : Policy). p .refusal) (c .before .before .before .read-policy .ensures) in
+    c .refused .ensures ∙ ap refusedWeighed same ∙ sym (weigh-policy-refused file (now (a .tree)) (omega arith))
+
+order-table-requires : tie.Need-order-table-requires
+order-table-requires c κs = search needs
+
+tree-refusal-requires : tie.Need-tree-refusal-requires
+tree-refusal-requires c κs =
+    let t = c .before .before .before .before .before .before in
+    read-few (now (t .before .before .before .args .policy)) (t .read-policy .ensures)
+
+refused-requires-2 : tie.Need-refused-requires-2
+refused-requires-2 c κs = search needs
+
+returns-2 : tie.Need-returns-2
+returns-2 c =
+    let t = c .before .before in
+    let file = now (t .before .before .before .before .before .before .before .before .before .before .args .policy) in
+    let tree = now (t .before .before .before .before .before .before .before .before .before .before .args .tree) in
+    let same = t .before .before .before .before .before .before .before .read-policy .ensures in
+    let ok = read-accepted file same (t .before .before .before .before .before .if1 .left) in
+    let number = read-number file same (t .before .before .order-table .ensures) tree (t .tree-refusal .ensures) in
+    c .refused2 .ensures ∙ ap refusedWeighed number ∙ sym (weigh-tree-refused file tree ok (omega arith))
+
+read-parents-requires : tie.Need-read-parents-requires
+unfolding policyOf
+read-parents-requires c κs =
+    let file = now (c .before .before .before .before .before .before .before .before .before .before .before .args .policy) in
+    let tree = now (c .before .before .before .before .before .before .before .before .before .before .before .args .tree) in
+    let same = c .before .before .before .before .before .before .before .before .read-policy .ensures in
+    let ok = read-accepted file same (c .before .before .before .before .before .before .if1 .left) in
+    let table = c .before .before .before .order-table .ensures in
+    let none = sym (read-number file same table tree (c .before .tree-refusal .ensures)) ∙ c .if2 .left in
+    rw same (bounds file .0, omega (arith, gives file ok tree none .form .whole))
+
+total-of-requires : tie.Need-total-of-requires
+unfolding policyOf
+total-of-requires c κs =
+    let t = c .before .before .before .before in
+    let file = now (t .before .before .before .before .before .before .before .before .before .before .before .args .policy) in
+    let tree = now (t .before .before .before .before .before .before .before .before .before .before .before .args .tree) in
+    let same = t .before .before .before .before .before .before .before .before .read-policy .ensures in
+    let ok = read-accepted file same (t .before .before .before .before .before .before .if1 .left) in
+    let table = t .before .before .before .order-table .ensures in
+    let none = sym (read-number file same table tree (t .before .tree-refusal .ensures)) ∙ t .if2 .left in
+    rw (c .before .before .before .read-parents .ensures, same) (bounds file .0, offered-rowed file ok tree none)
+
+choose-parents-requires : tie.Need-choose-parents-requires
+choose-parents-requires c κs =
+    let o = c .before .before .before .before .before .before .before .before .before .before in
+    let r = o .before .before .before .before .before in
+    (read-few (now (r .before .before .before .args .policy)) (r .read-policy .ensures), rw (o .order-table .ensures) (table-falls _ _))
+
+total-of-requires-2 : tie.Need-total-of-requires-2
+total-of-requires-2 c κs =
+    let few =
+    let t = c .before .before .before .before .before .before .before .before .before .before .before .before .before .before .before .before .before .before .before in
+    read-few (now (t .before .before .before .args .policy)) (t .read-policy .ensures) in
+    rw (c .before .before .before .choose-parents .ensures) (few, table-rowed _ _ _ _ few)
+
+returns-3 : tie.Need-returns-3
+unfolding policyOf
+returns-3 c =
+    let t = c .before .before .before .before .before .before .before .before .before .before .before .before in
+    let file = now (t .before .before .before .before .before .before .before .before .before .before .before .args .policy) in
+    let tree = now (t .before .before .before .before .before .before .before .before .before .before .before .args .tree) in
+    let same = t .before .before .before .before .before .before .before .before .read-policy .ensures in
+    let ok = read-accepted file same (t .before .before .before .before .before .before .if1 .left) in
+    let table = t .before .before .before .order-table .ensures in
+    let none = sym (read-number file same table tree (t .before .tree-refusal .ensures)) ∙ t .if2 .left in
+    simp (
+      c .total-of2 .ensures,
+      c .before .before .before .before .choose-parents .ensures,
+      c .before .before .before .before .before .before .before .total-of .ensures,
+      c .before .before .before .before .before .before .before .before .before .before .before .read-parents .ensures,
+      read-order file same table,
+      same,
+    )
+    (worked-answer file ok tree none)
+
+pub weigh-spec : {M : Type 1} → statement M
+weigh-spec =
+    tie.close
+    (tie.spec
+    read-policy-requires
+    refused-requires
+    returns
+    order-table-requires
+    tree-refusal-requires
+    refused-requires-2
+    returns-2
+    read-parents-requires
+    total-of-requires
+    choose-parents-requires
+    total-of-requires-2
+    returns-3)

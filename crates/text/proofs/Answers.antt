@@ -1,0 +1,71 @@
+-- What `plan_text` answers and leaves, from what stands in the buffer of its own.
+use Prim.Native.Nat.{ℕ, _≤_, _<_}
+use mathlib.Core.Bool.{Bool, true, false}
+use mathlib.Core.List.{List}
+use mathlib.Core.Path.{_≡_, refl}
+use native.Mathlib.Omega.{arith}
+use borrow.Author.Tests.{le-leb, lt-leb, leb-true}
+use lib.Dec.{leb}
+use lib.ListN.{length, take, drop, length-append, length-drop}
+use Rattle.lists.specs.Buffer.{pasted}
+use Rattle.planner.specs.Planned.{planOf}
+use Rattle.planner.specs.declared.Plan.{Plan}
+use Rattle.text.specs.Answer.{writtenOf, bufferAfter}
+use Rattle.text.specs.Listing.{listing, planText}
+use Rattle.text.specs.Put.{Put}
+use Rattle.text.specs.declared.Written.{Written}
+use Rattle.text.proofs.Plans.{text-suffices}
+use Rattle.text.proofs.Writes.{put-front}
+
+-- the text stands at the front of the buffer
+module _ (file : List ℕ) {d e : List ℕ} {plan : Plan} {r : ℕ} (same : plan ≡ planOf file) (put : Put d e 0 (listing file plan) r) where
+  text-put : Put d e 0 (planText file) r
+  unfolding planText
+  text-put = rw same at put
+
+  pub text-length : r ≡ length (planText file)
+  text-length = omega (arith, text-put .behind)
+
+  pub text-taken : take r e ≡ planText file
+  text-taken = put-front text-put
+
+module _ (file out : List ℕ) where
+  -- there is room for the text
+  module _ (room : length (planText file) ≤ length out) where
+    pub written-yes : (r : ℕ) → r ≡ length (planText file) → record { refusal = 0; length = r } ≡ writtenOf file (length out)
+    unfolding writtenOf
+    written-yes r e = rw (le-leb (length (planText file)) (length out) room, e)
+
+    pub buffer-yes : pasted out 0 (planText file) ≡ bufferAfter file out
+    unfolding bufferAfter
+    buffer-yes = rw (le-leb (length (planText file)) (length out) room)
+
+  -- there is none
+  module _ (none : length out < length (planText file)) where
+    pub written-no : record { refusal = 16; length = 0 } ≡ writtenOf file (length out)
+    unfolding writtenOf
+    written-no = rw (lt-leb (length (planText file)) (length out) none)
+
+    pub buffer-no : out ≡ bufferAfter file out
+    unfolding bufferAfter
+    buffer-no = rw (lt-leb (length (planText file)) (length out) none)
+
+  front-length : length (planText file) ≤ length out → length (pasted out 0 (planText file)) ≡ length out
+  unfolding pasted
+  front-length room = simp (length-append, length-drop) (omega arith)
+
+  -- the length that is answered lies within the buffer
+  pub written-within : (w : Written) (after : List ℕ) → w ≡ writtenOf file (length out) → after ≡ bufferAfter file out → w .length ≤ length after
+  unfolding writtenOf bufferAfter
+  written-within w after e f = go (leb (length (planText file)) (length out)) refl
+    where
+      go : (b : Bool) → leb (length (planText file)) (length out) ≡ b → w .length ≤ length after
+      go true t =
+          let room = leb-true (length (planText file)) (length out) t in
+          rw (e, f, t) (omega (arith, front-length room, room))
+      go false t = rw (e, f, t) (omega arith)
+
+-- a buffer of 4,096 bytes, or of 3,281, has room for every text
+pub room-suffices : (file : List ℕ) (room : ℕ) → 3281 ≤ room → writtenOf file room ≡ record { refusal = 0; length = length (planText file) }
+unfolding writtenOf
+room-suffices file room h = rw (le-leb (length (planText file)) room (omega (arith, text-suffices file)))

@@ -1,0 +1,9 @@
+pub mod Writes
+pub mod Names
+pub mod Gathering
+pub mod Digits
+pub mod Parts
+pub mod Plans
+pub mod Answers
+pub mod Front
+pub mod Examples

@@ -1,0 +1,73 @@
+-- The parts of a listing, and their lengths.
+use Prim.Native.Nat.{ℕ, zero, suc, _+_, _≤_, _<_}
+use mathlib.Core.List.{List, _++_, append-assoc}
+use mathlib.Core.Logic.{⊎-elim}
+use mathlib.Core.Path.{_≡_}
+use native.Mathlib.Nat.{eq-or-lt-of-le, le-of-suc-le-suc}
+use native.Mathlib.Omega.{arith}
+use borrow.Author.Tests.{eq-eqb, ne-eqb}
+use lib.ListN.{length, getD, length-append}
+use Rattle.policy.specs.File.{nameOf, countOf}
+use Rattle.planner.specs.declared.Plan.{Plan}
+use Rattle.text.specs.Decimal.{decimal}
+use Rattle.text.specs.Listing.{space, newline, dash, unpadded, parentName, line, lines, totalWord, refusedWord, lastLine, refusedLine, listing}
+use Rattle.text.specs.Put.{worded, names, numbers}
+
+-- the parts of a line in groups: two fields, three fields with the space before each, the line feed
+regroup : (a sp b x y z nl : List ℕ)
+    → a ++ sp ++ b ++ sp ++ x ++ sp ++ y ++ sp ++ z ++ nl ≡ (a ++ sp ++ b) ++ (sp ++ x ++ (sp ++ y) ++ (sp ++ z)) ++ nl
+regroup a sp b x y z nl = simp append-assoc
+
+pub worded-length : (word : List ℕ) (x : ℕ) → length (worded word x) ≡ length word + suc (length (decimal x)) + 1
+unfolding worded
+worded-length word x = simp length-append (omega arith)
+
+pub numbers-length : (weight size count : ℕ) → length (numbers weight size count)
+    ≡ suc (length (decimal weight)) + suc (length (decimal size)) + suc (length (decimal count))
+unfolding numbers
+numbers-length weight size count = simp length-append (omega arith)
+
+module _ (file : List ℕ) (plan : Plan) (m : ℕ) where
+  -- the parent's name: a dash for the top
+  pub parent-top : m ≡ 0 → parentName file plan m ≡ dash
+  unfolding parentName
+  parent-top e = rw (eq-eqb m 0 e)
+
+  pub parent-other : (m ≡ 0 → ⊥) → parentName file plan m ≡ unpadded (nameOf file (getD (plan .parents) m 0))
+  unfolding parentName
+  parent-other ne = rw (ne-eqb m 0 ne)
+
+  pub names-length : length (names file plan m) ≡ length (unpadded (nameOf file m)) + 1 + length (parentName file plan m)
+  unfolding names
+  names-length = simp length-append
+
+  -- a line: its names, its numbers and a line feed
+  module _ (count : ℕ) (e : count ≡ countOf file m) where
+    pub line-parts : line file plan m ≡ names file plan m ++ numbers (getD (plan .weights) m 0) (getD (plan .sizes) m 0) count ++ newline
+    unfolding line names numbers
+    line-parts =
+        rw e
+        (regroup (unpadded (nameOf file m)) space (parentName file plan m) (decimal (getD (plan .weights) m 0)) (decimal (getD (plan .sizes) m 0))
+        (decimal (countOf file m)) newline)
+
+    pub line-length : length (line file plan m)
+        ≡ length (names file plan m) + length (numbers (getD (plan .weights) m 0) (getD (plan .sizes) m 0) count) + 1
+    line-length = rw line-parts (simp length-append)
+
+module _ (file : List ℕ) (plan : Plan) where
+  -- each line is one of the lines
+  pub lines-fit : (n m : ℕ) → m < n → length (lines file plan m) + length (line file plan m) ≤ length (lines file plan n)
+  unfolding lines
+  lines-fit zero m h = absurd (omega arith)
+  lines-fit (suc n) m h =
+      let l = length-append (lines file plan n) (line file plan n) in
+      ⊎-elim (λ (e : m ≡ n). rw e (omega arith)) (λ (k : m < n). omega (arith, lines-fit n m k)) (eq-or-lt-of-le (le-of-suc-le-suc h))
+
+  -- the text of a refused policy and of an accepted one
+  pub listing-refused : (plan .refusal ≡ 0 → ⊥) → listing file plan ≡ worded refusedWord (plan .refusal)
+  unfolding listing refusedLine worded
+  listing-refused ne = rw (ne-eqb (plan .refusal) 0 ne)
+
+  pub listing-accepted : plan .refusal ≡ 0 → listing file plan ≡ lines file plan (plan .labels) ++ worded totalWord (plan .total)
+  unfolding listing lastLine worded
+  listing-accepted e = rw (eq-eqb (plan .refusal) 0 e)

@@ -1,0 +1,86 @@
+-- The plan of every policy file can be printed, and 4,096 bytes always have room for its text.
+use Prim.Native.Nat.{ℕ, zero, suc, _+_, _*_, _≤_}
+use mathlib.Core.Bool.{Bool, true, false, cond}
+use mathlib.Core.List.{List, _++_}
+use mathlib.Core.Path.{refl}
+use native.Mathlib.Omega.{arith}
+use lib.Dec.{eqb}
+use lib.ListN.{length, getD, drop, length-append, length-take}
+use Rattle.lists.proofs.Tables.{getD-filled}
+use Rattle.policy.proofs.Verdict.{bounds}
+use Rattle.policy.specs.File.{nameOf, countOf}
+use Rattle.policy.specs.Whole.{labelsOf}
+use Rattle.weights.proofs.Reading.{plan-early}
+use Rattle.planner.specs.Planned.{testOf, planTree, planOf}
+use Rattle.planner.specs.declared.Plan.{Plan}
+use Rattle.text.specs.Decimal.{decimal}
+use Rattle.text.specs.Listing.{newline, dash, unpadded, parentName, line, lines, lastLine, refusedLine, listing, planText}
+use Rattle.text.specs.Put.{Printable}
+use Rattle.text.proofs.Names.{unpadded-short}
+use Rattle.text.proofs.Digits.{decimal-short}
+use Rattle.text.proofs.Parts.{names-length, numbers-length, line-length}
+
+pub plan-printable : (file : List ℕ) → Printable file (planOf file)
+unfolding planOf planTree
+plan-printable file = record {
+  few = bounds file .0;
+  within = omega (arith, bounds file);
+  parents = λ m h. omega (arith, getD-filled (planTree file) 64 0 (labelsOf file) m 0 h, plan-early (labelsOf file) (countOf file) (testOf file) m);
+}
+
+-- a name has at most 8 bytes
+name-short : (file : List ℕ) (m : ℕ) → length (unpadded (nameOf file m)) ≤ 8
+unfolding nameOf
+name-short file m = omega (arith, unpadded-short (nameOf file m), length-take 8 (drop (12 * m + 2) file))
+
+module _ (file : List ℕ) (plan : Plan) where
+  parent-short : (m : ℕ) → length (parentName file plan m) ≤ 8
+  unfolding parentName
+  parent-short m = go (eqb m 0)
+    where
+      go : (t : Bool) → length (cond t dash (unpadded (nameOf file (getD (plan .parents) m 0)))) ≤ 8
+      go true = omega arith
+      go false = name-short file (getD (plan .parents) m 0)
+
+  -- a line has at most 51 bytes
+  line-short : (m : ℕ) → length (line file plan m) ≤ 51
+  line-short m =
+      let weight = getD (plan .weights) m 0 in
+      let size = getD (plan .sizes) m 0 in
+      let count = countOf file m in
+      omega (
+        arith,
+        line-length file plan m count refl,
+        names-length file plan m,
+        name-short file m,
+        parent-short m,
+        numbers-length weight size count,
+        decimal-short weight,
+        decimal-short size,
+        decimal-short count,
+      )
+
+  lines-short : (n : ℕ) → length (lines file plan n) ≤ 51 * n
+  unfolding lines
+  lines-short zero = omega arith
+  lines-short (suc n) = omega (arith, length-append (lines file plan n) (line file plan n), lines-short n, line-short n)
+
+  listing-short : plan .labels ≤ 64 → length (listing file plan) ≤ 3281
+  unfolding listing lastLine refusedLine
+  listing-short few = go (eqb (plan .refusal) 0)
+    where
+      go : (t : Bool) → length (cond t (lines file plan (plan .labels) ++ lastLine plan) (refusedLine plan)) ≤ 3281
+      go true =
+          omega (
+            arith,
+            length-append (lines file plan (plan .labels)) (lastLine plan),
+            lines-short (plan .labels),
+            length-append (decimal (plan .total)) newline,
+            decimal-short (plan .total),
+          )
+      go false = omega (arith, length-append (decimal (plan .refusal)) newline, decimal-short (plan .refusal))
+
+-- 64 lines of 51 bytes and a last line of 17: a buffer of 4,096 bytes has room for every text
+pub text-suffices : (file : List ℕ) → length (planText file) ≤ 3281
+unfolding planText
+text-suffices file = listing-short file (planOf file) (plan-printable file .few)

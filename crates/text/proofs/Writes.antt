@@ -1,0 +1,27 @@
+-- Laws of writes into a buffer.
+use Prim.Native.Nat.{ℕ, _+_, _≤_}
+use mathlib.Core.List.{List, [], _++_}
+use mathlib.Core.Path.{_≡_, refl, _∙_}
+use native.Mathlib.Omega.{arith}
+use lib.ListN.{length, take, drop, length-append}
+use lib.Seq.{take-at}
+use Rattle.lists.proofs.Pasted.{pasted-adjacent}
+use Rattle.lists.specs.Buffer.{pasted}
+use Rattle.text.specs.Put.{Put}
+
+-- two writes, the second straight behind the first
+pub put-next : {d e f s t : List ℕ} {at q r : ℕ} → Put d e at s q → Put e f q t r → q + length t ≤ length d → Put d f at (s ++ t) r
+put-next {d} {e} {f} {s} {t} {at} {q} {r} a b h = record {
+  behind = omega (arith, length-append s t, a .behind, b .behind);
+  written = b .written ∙ rw (a .behind, a .written) (pasted-adjacent d at s t (omega (arith, a .behind)));
+}
+
+-- nothing written at the start
+pub put-none : (d : List ℕ) → Put d d 0 [] 0
+unfolding pasted
+put-none d = record { behind = refl; written = refl }
+
+-- what is written at the start stands there
+pub put-front : {d e s : List ℕ} {r : ℕ} → Put d e 0 s r → take r e ≡ s
+unfolding pasted
+put-front {d} {e} {s} {r} p = rw (p .written, p .behind) (take-at s (drop (0 + length s) d) (0 + length s) (omega arith))

@@ -1,0 +1,5 @@
+pub mod Examples
+pub mod Turns
+pub mod Reading
+pub mod Agree
+pub mod Short

@@ -1,0 +1,152 @@
+//! Trees over a policy, from document 01: the order by search, weights, the plan, smallest sets, totals, tree
+//! files with their refusals, and the plan's text.
+
+use crate::policy::{self, Policy};
+
+/// What a plan says of each label, and its total.
+#[derive(Clone, Debug, PartialEq, Eq)]
+pub struct Plan {
+    pub parents: Vec<u8>,
+    pub weights: Vec<u32>,
+    pub sizes: Vec<u8>,
+    pub total: u32,
+}
+
+/// An accepted policy with its order and its plan. A tree is a list of parents, the top's own entry 0.
+pub struct Planned<'a> {
+    policy: &'a Policy,
+    below: Vec<Vec<bool>>,
+    pub plan: Plan,
+}
+
+/// For each label, which labels are at or below it: a search from it down the pairs.
+fn search(policy: &Policy) -> Vec<Vec<bool>> {
+    let labels = policy.names.len();
+    let mut lowers = vec![Vec::new(); labels];
+    for (upper, lower) in &policy.pairs {
+        lowers[*upper as usize].push(*lower as usize);
+    }
+    let from = |start: usize| {
+        let mut seen = vec![false; labels];
+        let mut open = vec![start];
+        while let Some(label) = open.pop() {
+            if !std::mem::replace(&mut seen[label], true) {
+                open.extend(&lowers[label]);
+            }
+        }
+        seen
+    };
+    (0..labels).map(from).collect()
+}
+
+impl<'a> Planned<'a> {
+    pub fn new(policy: &'a Policy) -> Planned<'a> {
+        let none = Plan { parents: Vec::new(), weights: Vec::new(), sizes: Vec::new(), total: 0 };
+        let mut planned = Planned { policy, below: search(policy), plan: none };
+        planned.plan = planned.made();
+        planned
+    }
+
+    pub fn labels(&self) -> usize {
+        self.policy.names.len()
+    }
+
+    pub fn at_or_below(&self, lower: usize, upper: usize) -> bool {
+        self.below[upper][lower]
+    }
+
+    /// The labels that may be the label's parent.
+    pub fn strictly_above(&self, label: usize) -> Vec<usize> {
+        (0..self.labels()).filter(|upper| *upper != label && self.at_or_below(label, *upper)).collect()
+    }
+
+    /// The accounts at labels that are at or above the label and not at or above the parent.
+    pub fn weight(&self, parent: usize, label: usize) -> u32 {
+        let counted = |l: &usize| self.at_or_below(label, *l) && !self.at_or_below(parent, *l);
+        (0..self.labels()).filter(counted).map(|l| self.policy.counts[l] as u32).sum()
+    }
+
+    /// A parent of least weight; of several, the one with the lowest number.
+    fn best_parent(&self, label: usize) -> usize {
+        let above = self.strictly_above(label);
+        above.into_iter().min_by_key(|parent| (self.weight(*parent, label), *parent)).unwrap()
+    }
+
+    /// Each label at or below this one that is the top or whose parent is not at or below it.
+    fn smallest(&self, tree: &[usize], label: usize) -> Vec<usize> {
+        let held = |m: &usize| *m == 0 || !self.at_or_below(tree[*m], label);
+        (0..self.labels()).filter(|m| self.at_or_below(*m, label)).filter(held).collect()
+    }
+
+    /// For each label, accounts times size of the smallest set, summed.
+    pub fn total(&self, tree: &[usize]) -> u32 {
+        let keys = |l: usize| self.policy.counts[l] as u64 * self.smallest(tree, l).len() as u64;
+        let total: u64 = (0..self.labels()).map(keys).sum();
+        total.try_into().unwrap()
+    }
+
+    fn made(&self) -> Plan {
+        let labels = self.labels();
+        let tree: Vec<usize> = (0..labels).map(|m| if m == 0 { 0 } else { self.best_parent(m) }).collect();
+        let weight = |m: usize| if m == 0 { self.policy.counts[0] as u32 } else { self.weight(tree[m], m) };
+        Plan {
+            parents: tree.iter().map(|parent| *parent as u8).collect(),
+            weights: (0..labels).map(weight).collect(),
+            sizes: (0..labels).map(|l| self.smallest(&tree, l).len() as u8).collect(),
+            total: self.total(&tree),
+        }
+    }
+
+    /// The tree of a tree file, or the number of its refusal.
+    pub fn read_tree(&self, file: &[u8]) -> Result<Vec<usize>, u8> {
+        if file.get(..2) != Some(b"TR") {
+            return Err(2);
+        }
+        if file.len() != 2 + self.labels() {
+            return Err(11);
+        }
+        let tree: Vec<usize> = file[2..].iter().map(|byte| *byte as usize).collect();
+        if tree[0] != 0 || (1..tree.len()).any(|m| !self.strictly_above(m).contains(&tree[m])) {
+            return Err(12);
+        }
+        Ok(tree)
+    }
+
+    /// The total of an offered tree, and whether no tree has a smaller one.
+    pub fn weigh(&self, file: &[u8]) -> Result<(u32, bool), u8> {
+        let total = self.total(&self.read_tree(file)?);
+        Ok((total, total == self.plan.total))
+    }
+
+    pub fn text(&self) -> Vec<u8> {
+        let name = |l: usize| std::str::from_utf8(&self.policy.names[l]).unwrap().trim_end();
+        let mut text = String::new();
+        for m in 0..self.labels() {
+            let parent = if m == 0 { "-" } else { name(self.plan.parents[m] as usize) };
+            let (weight, size) = (self.plan.weights[m], self.plan.sizes[m]);
+            text += &format!("{} {parent} {weight} {size} {}\n", name(m), self.policy.counts[m]);
+        }
+        text += &format!("TOTAL {}\n", self.plan.total);
+        text.into_bytes()
+    }
+}
+
+/// The operations on files: a refusal of the policy comes first.
+pub fn plan(file: &[u8]) -> Result<Plan, u8> {
+    policy::read(file).map(|policy| Planned::new(&policy).plan)
+}
+
+pub fn weigh(file: &[u8], tree: &[u8]) -> Result<(u32, bool), u8> {
+    policy::read(file).and_then(|policy| Planned::new(&policy).weigh(tree))
+}
+
+pub fn text(file: &[u8]) -> Vec<u8> {
+    match policy::read(file) {
+        Ok(policy) => Planned::new(&policy).text(),
+        Err(number) => refused_text(number),
+    }
+}
+
+pub fn refused_text(number: u8) -> Vec<u8> {
+    format!("REFUSED {number}\n").into_bytes()
+}

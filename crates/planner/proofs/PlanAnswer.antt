@@ -6,10 +6,9 @@ use mathlib.Core.List.{List}
 use mathlib.Core.Logic.{_≢_}
 use mathlib.Core.Path.{_≡_, refl, sym, ap, ap₂, subst, _∙_}
 use native.Mathlib.Omega.{arith}
-use borrow.Author.Tests.{ne-eqb, eqb-false, not-true}
+use borrow.Author.Tests.{eqb-false, not-true}
 use lib.Dec.{eqb}
 use lib.ListN.{length, getD}
-use Rattle.lists.proofs.Tables.{getD-filled, getD-past}
 use Rattle.lists.specs.Tables.{listed}
 use Rattle.order.specs.Order.{AtOrBelow}
 use Rattle.policy.proofs.Demand1.{refused-zeros}
@@ -27,7 +26,8 @@ use Rattle.trees.specs.Order.{Order}
 use Rattle.trees.specs.Sums.{sum, sumWhere}
 use Rattle.trees.specs.Trees.{top, Tree, Fewest}
 use Rattle.trees.specs.Weights.{weight, smallest, total, weights, LeastWeight, HangsLeast}
-use Rattle.weights.specs.Tables.{entries, heldWeight, weightTable, setSize, sizeTable}
+use Rattle.weights.proofs.Reading.{entries-filled, entries-past, heldWeight-top, heldWeight-under, entries-weight, entries-weight-past, entries-size, entries-size-past}
+use Rattle.weights.specs.Tables.{entries, weightTable, setSize, sizeTable}
 use Rattle.planner.proofs.PolicyOrder.{policy-order}
 use Rattle.planner.specs.Planned.{testOf, planTree, treeTotal, planOf, refusedPlan}
 
@@ -62,7 +62,7 @@ module _ (file : List ℕ) (ok : Accepted file) where
   unfolding planOf
   parents-same = record {
     labels = λ m hm ne. tree-hangs .hangs m hm ne .above .label;
-    agree = λ m hm ne. sym (getD-filled (planTree file) 64 0 n m 0 hm);
+    agree = λ m hm ne. sym (entries-filled (planTree file) n m hm);
   }
 
   -- "The plan's tree hangs so"
@@ -89,19 +89,20 @@ module _ (file : List ℕ) (ok : Accepted file) where
 
   -- 01: "weight (for the top its accounts), keys held by one account"
   pub plan-answer-weights : (m : ℕ) → m < n → m ≢ top → entries (planOf file .weights) m ≡ weight n count le (parents m) m
-  unfolding planOf weightTable heldWeight
+  unfolding planOf
   plan-answer-weights m hm ne =
-      getD-filled (heldWeight n count le (planTree file)) 64 0 n m 0 hm
-      ∙ rw (ne-eqb m top ne) (ap (λ (p : ℕ). weight n count le p m) (parents-same .agree m hm ne))
+      entries-weight n count le (planTree file) m hm
+      ∙ heldWeight-under n count le (planTree file) m ne
+      ∙ ap (λ (p : ℕ). weight n count le p m) (parents-same .agree m hm ne)
 
   pub plan-answer-top-weight : entries (planOf file .weights) top ≡ count top
-  unfolding planOf weightTable heldWeight
-  plan-answer-top-weight = getD-filled (heldWeight n count le (planTree file)) 64 0 n top 0 (order .some)
+  unfolding planOf
+  plan-answer-top-weight = entries-weight n count le (planTree file) top (order .some) ∙ heldWeight-top n count le (planTree file) top refl
 
   pub plan-answer-sizes : (l : ℕ) → l < n → entries (planOf file .sizes) l ≡ length (smallest n le parents l)
-  unfolding planOf sizeTable setSize
+  unfolding planOf setSize
   plan-answer-sizes l hl =
-      getD-filled (setSize n le (planTree file)) 64 0 n l 0 hl
+      entries-size n le (planTree file) l hl
       ∙ ap (length {A = ℕ}) (smallest-agree {count = count} {count′ = count} (λ l hl. refl) (λ m l hm hl. refl) parents-same l hl)
 
   -- 01: "It equals the top's accounts plus the weights of all chosen parents."
@@ -124,11 +125,11 @@ module _ (file : List ℕ) where
   -- "Entries past the label count are 0"
   pub plan-answer-past : (m : ℕ) → labelsOf file ≤ m
       → (entries (planOf file .parents) m ≡ 0) × (entries (planOf file .weights) m ≡ 0) × (entries (planOf file .sizes) m ≡ 0)
-  unfolding planOf weightTable sizeTable
+  unfolding planOf
   plan-answer-past m h = (
-    getD-past (planTree file) 64 0 (labelsOf file) m h,
-    getD-past (heldWeight (labelsOf file) (countOf file) (testOf file) (planTree file)) 64 0 (labelsOf file) m h,
-    getD-past (setSize (labelsOf file) (testOf file) (planTree file)) 64 0 (labelsOf file) m h,
+    entries-past (planTree file) (labelsOf file) m h,
+    entries-weight-past (labelsOf file) (countOf file) (testOf file) (planTree file) m h,
+    entries-size-past (labelsOf file) (testOf file) (planTree file) m h,
   )
 
   -- a total has its place in 32 bits, with room to spare

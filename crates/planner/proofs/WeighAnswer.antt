@@ -1,10 +1,10 @@
 -- What `weigh` answers for a policy file and a tree file: demand 3's "an offered tree gets its own total, and a yes exactly when the two are
 -- equal", and 0 and no with a refusal.
 use Prim.Native.Nat.{ℕ, _≤_, _<_}
-use mathlib.Core.Bool.{Bool, true, false}
+use mathlib.Core.Bool.{Bool, true, false, cond}
 use mathlib.Core.List.{List}
 use mathlib.Core.Logic.{_↔_}
-use mathlib.Core.Path.{_≡_, refl, sym, _∙_}
+use mathlib.Core.Path.{_≡_, refl, sym, ap, _∙_}
 use native.Mathlib.Omega.{arith}
 use borrow.Author.Tests.{eq-eqb, ne-eqb, eqb-true}
 use lib.Dec.{eqb}
@@ -48,7 +48,8 @@ module _ (policy tree : List ℕ) where
   -- "A refusal of the policy comes before any other", "every number in the answer is 0, a yes or no is no"
   pub weigh-policy-refused : 0 < refusalOf policy → answer ≡ refusedWeighed (refusalOf policy)
   unfolding weighRefusal
-  weigh-policy-refused h = refused-by (refusalOf policy) (simp (ne-eqb (refusalOf policy) 0 (λ z. omega arith))) h
+  weigh-policy-refused h =
+      refused-by (refusalOf policy) (ap (λ (b : Bool). cond b (treeRefusal n le tree) (refusalOf policy)) (ne-eqb (refusalOf policy) 0 (λ z. omega arith))) h
 
   module _ (ok : Accepted policy) where
     number : weighRefusal policy tree ≡ treeRefusal n le tree

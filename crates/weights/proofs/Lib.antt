@@ -3,3 +3,5 @@ pub mod Turns
 pub mod Reading
 pub mod Agree
 pub mod Short
+pub mod Above
+pub mod Sizes

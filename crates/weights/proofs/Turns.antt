@@ -1,14 +1,14 @@
 -- One turn of each loop: what the sum, the size or the best parent so far is with one label more.
 use Prim.Native.Nat.{ℕ, _+_, _*_, _≤_}
-use mathlib.Core.Bool.{Bool, true, false, not, _&&_, _||_}
-use mathlib.Core.Path.{_≡_, sym, ap₂, _∙_}
+use mathlib.Core.Bool.{Bool, true, false, cond, not, _&&_, _||_}
+use mathlib.Core.Path.{_≡_, refl, sym, ap₂, _∙_}
 use native.Mathlib.Nat.{mul-le-mul}
 use native.Mathlib.Numerals.{add-one}
 use lib.Dec.{eqb}
 use Rattle.trees.specs.Trees.{top}
 use Rattle.trees.specs.Sums.{sum, sumWhere}
 use Rattle.trees.specs.Weights.{weight, inSmallest, takes, best}
-use Rattle.trees.proofs.Sums.{sum-suc, sumWhere-yes, sumWhere-no}
+use Rattle.trees.proofs.Sums.{sum-suc}
 use Rattle.trees.proofs.Ties.{best-pass}
 
 -- the keys of one label's accounts, with the widths that they are held in
@@ -19,18 +19,24 @@ keys-bound hk hs = mul-le-mul hk hs
 pub sum-turn : (f : ℕ → ℕ) (n s x : ℕ) → s ≡ sum f n → x ≡ f n → s + x ≡ sum f (n + 1)
 sum-turn f n s x e h = rw add-one (ap₂ _+_ e h ∙ sym (sum-suc f n))
 
--- a conditional sum, by the test's answer
-module _ (t : ℕ → Bool) (f : ℕ → ℕ) (n s : ℕ) (e : s ≡ sumWhere t f n) where
-  pub turn-yes : (x : ℕ) → x ≡ f n → {a : Bool} → a ≡ t n → a ≡ true → s + x ≡ sumWhere t f (n + 1)
-  turn-yes x h y b = rw add-one (ap₂ _+_ e h ∙ sym (sumWhere-yes t f n (sym y ∙ b)))
-
-  pub turn-no : {a : Bool} → a ≡ t n → a ≡ false → s ≡ sumWhere t f (n + 1)
-  turn-no y b = rw add-one (e ∙ sym (sumWhere-no t f n (sym y ∙ b)))
+-- a conditional sum
+pub where-turn : (t : ℕ → Bool) (f : ℕ → ℕ) (n s x : ℕ) → s ≡ sumWhere t f n → x ≡ cond (t n) (f n) 0 → s + x ≡ sumWhere t f (n + 1)
+unfolding sumWhere
+where-turn t f n s x e h = rw add-one (ap₂ _+_ e h)
 
 -- whether a label is in the smallest set, with its parent q in hand
 pub inSmallest-held : (le : ℕ → ℕ → Bool) (parent : ℕ → ℕ) (l m q : ℕ) → q ≡ parent m → (le m l && (eqb m top || not (le q l))) ≡ inSmallest le parent l m
 unfolding inSmallest
 inSmallest-held le parent l m q e = rw e
+
+-- the best of the top alone is the top
+pub best-one : (n : ℕ) (count : ℕ → ℕ) (le : ℕ → ℕ → Bool) (m : ℕ) → 0 ≡ best n count le m 1
+unfolding best
+best-one n count le m = either (le m 0 && takes (weight n count le 0 m) (weight n count le 0 m)) 0
+  where
+    either : (b : Bool) (x : ℕ) → x ≡ cond b x x
+    either true x = refl
+    either false x = refl
 
 -- the best parent, by the answers of the order and of the rule for ties
 module _ (n : ℕ) (count : ℕ → ℕ) (le : ℕ → ℕ → Bool) (m p b : ℕ) (e : b ≡ best n count le m p) where

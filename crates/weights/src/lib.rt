@@ -1,9 +1,10 @@
 // The core of planning: parents, weights, smallest sets and the total, from the accounts and the order table.
-ghost use Prim.Native.Nat.{_^_, _≤_, _<_};
+ghost use Prim.Native.Nat.{_+_, _≤_, _<_};
+ghost use mathlib.Core.Bool.{cond, not};
 ghost use mathlib.Core.Path.{_≡_};
 ghost use Rattle.order.specs.Table.{atOrBelow};
-ghost use Rattle.trees.specs.Weights.{weighed, weight, takes, leastParent, inSmallest};
-ghost use Rattle.weights.specs.Tables.{entries, Rowed, Falls, parentTable, heldWeight, weightTable, setSize, sizeTable, keyTotal};
+ghost use Rattle.trees.specs.Weights.{takes, leastParent, inSmallest};
+ghost use Rattle.weights.specs.Tables.{entries, Rowed, Falls, Small, accountsAbove, aboveTable, weightFrom, parentTable, heldWeight, weightTable, sizesBelow, sizeTable, keyTotal};
 
 // A label's number as an index.
 fn wide(x: u8) -> usize
@@ -19,26 +20,52 @@ fn accounts(x: u16) -> u32
     x as u32
 }
 
-// Whether label `l` is at or above label `m` and not at or above label `p`.
-fn weighed(rows: &[[bool; 64]; 64], p: usize, m: usize, l: usize) -> bool
-    requires { ⌜ (p < 64) × (m < 64) × (l < 64) ⌝ }
-    ensures { λ r. ⌜ r ≡ weighed (atOrBelow (now (rows .entry))) p m l ⌝ }
+// The accounts of label `l` if label `m` is at or below it, else none.
+fn account_above(counts: &[u16; 64], rows: &[[bool; 64]; 64], m: usize, l: usize) -> u32
+    requires { ⌜ (m < 64) × (l < 64) ⌝ }
+    ensures { λ r. ⌜ (r ≡ accountsAbove (entries (now (counts .entry))) (atOrBelow (now (rows .entry))) m l) × (r ≤ 65_535) ⌝ }
 {
-    rows[m][l] & !rows[p][l]
+    let here = accounts(counts[l]);
+    if rows[m][l] {
+        return here;
+    }
+    0
 }
 
-// The weight of parent `p` for label `m`: the accounts at labels that are weighed.
-fn weight(labels: usize, counts: &[u16; 64], rows: &[[bool; 64]; 64], p: usize, m: usize) -> u32
-    requires { ⌜ (labels ≤ 64) × (p < 64) × (m < 64) ⌝ }
-    ensures { λ r. ⌜ (r ≡ weight labels (entries (now (counts .entry))) (atOrBelow (now (rows .entry))) p m) × (r < 2 ^ 22) ⌝ }
+// The accounts of the labels at or above label `m`.
+fn accounts_above(labels: usize, counts: &[u16; 64], rows: &[[bool; 64]; 64], m: usize) -> [u32; 64]
+    requires { ⌜ (labels ≤ 64) × (m < 64) ⌝ }
+    ensures { λ r. ⌜ (r ≡ aboveTable labels (entries (now (counts .entry))) (atOrBelow (now (rows .entry))) m) × Small r ⌝ }
+{
+    let mut above = [0u32; 64];
+    let mut l = 0;
+    while l < labels {
+        above[l] = account_above(counts, rows, m, l);
+        l += 1;
+    }
+    above
+}
+
+// What stands at a label, or nothing if the label is at or above the parent.
+fn outside(more: u32, above: bool) -> u32
+    ensures { λ r. ⌜ (r ≡ cond (not above) more 0) × (r ≤ more) ⌝ }
+{
+    if above {
+        return 0;
+    }
+    more
+}
+
+// The weight of parent `p` for the label whose accounts above it are given: those at labels that are not above `p`.
+fn weight(labels: usize, above: &[u32; 64], rows: &[[bool; 64]; 64], p: usize) -> u32
+    requires { ⌜ (labels ≤ 64) × (p < 64) × Small (now above) ⌝ }
+    ensures { λ r. ⌜ r ≡ weightFrom labels (entries (now (above .entry))) (atOrBelow (now (rows .entry))) p ⌝ }
 {
     let mut sum: u32 = 0;
     let mut l = 0;
     while l < labels {
-        let more = accounts(counts[l]);
-        if weighed(rows, p, m, l) {
-            sum += more;
-        }
+        let more = above[l];
+        sum += outside(more, rows[p][l]);
         l += 1;
     }
     sum
@@ -56,14 +83,18 @@ fn least_parent(labels: usize, counts: &[u16; 64], rows: &[[bool; 64]; 64], m: u
     requires { ⌜ (labels ≤ 64) × (m < 64) ⌝ }
     ensures { λ r. ⌜ (r ≡ leastParent labels (entries (now (counts .entry))) (atOrBelow (now (rows .entry))) m) × (r ≤ m) ⌝ }
 {
+    if m == 0 {
+        return 0;
+    }
+    let above = accounts_above(labels, counts, rows, m);
     let mut best = 0;
-    let mut least = weight(labels, counts, rows, 0, m);
-    let mut p = 0;
+    let mut least = weight(labels, &above, rows, 0);
+    let mut p = 1;
     while p < m {
         let next = p;
         p += 1;
         if rows[m][next] {
-            let weighed = weight(labels, counts, rows, next, m);
+            let weighed = weight(labels, &above, rows, next);
             if takes(weighed, least) {
                 best = next;
                 least = weighed;
@@ -109,7 +140,9 @@ fn held_weight(
     if m == 0 {
         return accounts(counts[0]);
     }
-    weight(labels, counts, rows, wide(parents[m]), m)
+    let parent = wide(parents[m]);
+    let above = accounts_above(labels, counts, rows, m);
+    weight(labels, &above, rows, parent)
 }
 
 // The weight of each label's parent; for the top its accounts.
@@ -140,20 +173,36 @@ fn in_smallest(rows: &[[bool; 64]; 64], parents: &[u8; 64], l: usize, m: usize) 
     rows[m][l] & ((m == 0) | !rows[parent][l])
 }
 
-// The size of the smallest set of label `l`.
-fn set_size(labels: usize, rows: &[[bool; 64]; 64], parents: &[u8; 64], l: usize) -> u8
-    requires { ⌜ (labels ≤ 64) × (l < 64) × Rowed labels (now parents) ⌝ }
-    ensures { λ r. ⌜ r ≡ setSize labels (atOrBelow (now (rows .entry))) (entries (now (parents .entry))) l ⌝ }
+// The size of a set, with one label more if that is in it.
+fn counted(size: u8, held: bool) -> u8
+    requires { ⌜ size ≤ 64 ⌝ }
+    ensures { λ r. ⌜ r ≡ size + cond held 1 0 ⌝ }
 {
-    let mut size: u8 = 0;
-    let mut m = 0;
-    while m < labels {
-        if in_smallest(rows, parents, l, m) {
-            size += 1;
-        }
-        m += 1;
+    if held {
+        return size + 1;
     }
     size
+}
+
+// The sizes of the smallest sets with label `m` counted, from those of the labels below it.
+fn with_label(
+    labels: usize,
+    rows: &[[bool; 64]; 64],
+    parents: &[u8; 64],
+    m: usize,
+    sizes: [u8; 64],
+) -> [u8; 64]
+    requires { ⌜ (labels ≤ 64) × (m < labels) × Rowed labels (now parents) × (sizes ≡ sizesBelow labels (atOrBelow (now rows)) (entries (now parents)) m) ⌝ }
+    ensures { λ r. ⌜ r ≡ sizesBelow labels (atOrBelow (now (rows .entry))) (entries (now (parents .entry))) (m + 1) ⌝ }
+{
+    let mut next = [0u8; 64];
+    let mut l = 0;
+    while l < labels {
+        let held = in_smallest(rows, parents, l, m);
+        next[l] = counted(sizes[l], held);
+        l += 1;
+    }
+    next
 }
 
 // The size of each label's smallest set.
@@ -162,10 +211,11 @@ pub fn set_sizes(labels: usize, rows: &[[bool; 64]; 64], parents: &[u8; 64]) -> 
     ensures { λ r. ⌜ r ≡ sizeTable labels (atOrBelow (now (rows .entry))) (entries (now (parents .entry))) ⌝ }
 {
     let mut sizes = [0u8; 64];
-    let mut l = 0;
-    while l < labels {
-        sizes[l] = set_size(labels, rows, parents, l);
-        l += 1;
+    let mut m = 0;
+    while m < labels {
+        let next = with_label(labels, rows, parents, m, sizes);
+        sizes = next;
+        m += 1;
     }
     sizes
 }

@@ -1,49 +1,41 @@
--- `weights::set_sizes` meets its contract. Invariant: the first l sizes are filled in.
+-- `weights::set_sizes` meets its contract. Invariant: the labels below m are counted.
 use Prim.Native.Nat.{_-_, _≤_}
-use mathlib.Core.Path.{_≡_, refl}
+use mathlib.Core.Path.{_≡_}
 use native.Mathlib.Omega.{arith}
 use borrow.Author.Needs.{needs}
 use denote.Ref.{now}
-use Rattle.lists.specs.Tables.{listed, filled}
-use Rattle.lists.proofs.Tables.{fill-more}
 use Rattle.order.specs.Table.{atOrBelow}
-use Rattle.weights.specs.Tables.{entries, setSize, sizeTable}
+use Rattle.weights.specs.Tables.{entries, sizesBelow, sizeTable}
+use Rattle.weights.proofs.Sizes.{sizes-none}
 use Rattle.weights.proofs.set_sizes.Statement.{statement}
 use Rattle.weights.proofs.set_sizes.Tie as tie
 
 abbrev Inv-loop : tie.InvT-loop
-Inv-loop labels rows parents sizes₀ l₀ sizes l = (l ≤ labels) × (sizes ≡ filled 64 0 (setSize labels (atOrBelow rows) (entries parents)) l)
+Inv-loop labels rows parents sizes₀ m₀ sizes m = (m ≤ labels) × (sizes ≡ sizesBelow labels (atOrBelow rows) (entries parents) m)
 
 abbrev μ-loop : tie.MeasureT-loop
-μ-loop labels rows parents sizes₀ l₀ sizes l = labels - l
+μ-loop labels rows parents sizes₀ m₀ sizes m = labels - m
 
 loop-holds : tie.Need-loop-holds Inv-loop μ-loop
-unfolding listed
-loop-holds c = (omega arith, refl)
+loop-holds c = let a = c .args in (omega arith, sizes-none (atOrBelow (now (a .rows))) (entries (now (a .parents))) (a .labels) (omega arith))
 
-set-size-requires : tie.Need-set-size-requires Inv-loop μ-loop
-set-size-requires c κs = search needs
+with-label-requires : tie.Need-with-label-requires Inv-loop μ-loop
+with-label-requires c κs = (omega arith, omega arith, c .before .before .pre .1, c .before .loop .inv .1)
 
-array-write-sizes : tie.Need-array-write-sizes Inv-loop μ-loop
-array-write-sizes c = search needs
-
-add-l : tie.Need-add-l Inv-loop μ-loop
-add-l c = search needs
+add-m : tie.Need-add-m Inv-loop μ-loop
+add-m c = search needs
 
 loop-less : tie.Need-loop-less Inv-loop μ-loop
 loop-less c = search needs
 
 loop-again : tie.Need-loop-again Inv-loop μ-loop
-loop-again c =
-    let l = c .before .before .loop in
-    let a = c .before .before .before .args in
-    (omega arith, rw (l .inv .1, c .set-size .ensures) (fill-more (setSize (a .labels) (atOrBelow (now (a .rows))) (entries (now (a .parents)))) 64 0 (l .l) (omega arith)))
+loop-again c = (omega arith, c .with-label .ensures)
 
 returns : tie.Need-returns Inv-loop μ-loop
-unfolding sizeTable
+unfolding sizesBelow sizeTable
 returns c =
     let l = c .before .loop in
-    let end : l .l ≡ c .before .before .args .labels = omega arith in
+    let end : l .m ≡ c .before .before .args .labels = omega arith in
     rw end at (l .inv .1)
 
 pub set-sizes-spec : {M : Type 1} → statement M
@@ -53,9 +45,8 @@ set-sizes-spec =
     Inv-loop
     μ-loop
     loop-holds
-    set-size-requires
-    array-write-sizes
-    add-l
+    with-label-requires
+    add-m
     loop-less
     loop-again
     returns)

@@ -35,7 +35,7 @@ $(COMPARE): $(EXPORTS) $(wildcard tests/compare/*.rs)
 $(BENCH): $(EXPORTS) $(wildcard tests/bench/*.[ch])
 	@$(CC) -O3 -Wall -Wextra tests/bench/bench.c tests/bench/sha256.c $(EXPORTS) $(OPENSSL) -Wno-deprecated-declarations -o $@
 
-$(BENCH_PLAN): $(EXPORTS) tests/bench/plan.rs
+$(BENCH_PLAN): $(EXPORTS) tests/bench/plan.rs $(wildcard tests/compare/*.rs)
 	@$(RUSTC) --edition 2021 -C opt-level=3 -L target/staticlib -l static=exports tests/bench/plan.rs -o $@
 
 $(EXPORTS) $(COMPARE) $(BENCH) $(BENCH_PLAN): | build

@@ -2,130 +2,45 @@
 //! and 512 pairs: both in one run, round after round in turn, the median round, as a ratio of times. A ratio
 //! below 1 says that ours is the faster.
 //!
-//! The Rust program starts from the file's bytes like ours. It reads and checks the policy into arrays, builds
-//! the order as a table of 64 rows of 64 entries closed under chains, sums the weight of every label strictly
-//! above each label from the two rows, takes the least, and counts sizes and total. It has no bit sets and no
-//! allocation; its loops over rows have no branch inside, so that they compile to vector instructions.
+//! The Rust program starts from the file's bytes like ours. It reads and checks the policy as the comparison's
+//! second implementation does, builds the order as a table of 64 rows of 64 entries closed under chains, sums
+//! the weight of every label strictly above each label from the two rows, takes the least, and counts sizes and
+//! total. It has no bit sets, and allocates the reader's three lists alone; its loops over rows have no branch
+//! inside, so that they compile to vector instructions.
 
 use std::hint::black_box;
 use std::time::Instant;
 
-#[repr(C)]
-#[derive(Clone, Debug, PartialEq)]
-struct Plan {
-    refusal: u8,
-    labels: usize,
-    parents: [u8; 64],
-    weights: [u32; 64],
-    sizes: [u8; 64],
-    total: u32,
-}
+#[allow(dead_code)]
+#[path = "../compare/library.rs"]
+mod library;
+#[allow(dead_code)]
+#[path = "../compare/policy.rs"]
+mod policy;
 
-#[repr(C)]
-#[derive(Clone, Debug, Default, PartialEq)]
-struct Weighed {
-    refusal: u8,
-    total: u32,
-    least: bool,
-}
-
-extern "C" {
-    fn yendlowa_plan(policy: *const u8, length: usize) -> Plan;
-    fn yendlowa_weigh(policy: *const u8, policy_length: usize, tree: *const u8, tree_length: usize) -> Weighed;
-}
+use library::{yendlowa_plan, yendlowa_weigh};
 
 /// The plain Rust program.
 mod plain {
-    use super::{Plan, Weighed};
+    use crate::library::{Plan, Weighed};
+    use crate::policy;
 
     type Rows = [[bool; 64]; 64];
 
+    /// Accounts and pairs of a policy, the accounts as summands and 0 past the labels.
     struct Policy {
         labels: usize,
-        pairs: usize,
-        names: [[u8; 8]; 64],
         counts: [u32; 64],
-        over: [(u8, u8); 512],
-        placed: [bool; 64],
-    }
-
-    fn well_formed(name: &[u8; 8]) -> bool {
-        let length = name.iter().rposition(|byte| *byte != b' ').map_or(0, |last| last + 1);
-        length > 0 && name[..length].iter().all(|byte| byte.is_ascii_uppercase() || byte.is_ascii_digit())
-    }
-
-    impl Policy {
-        fn label(&mut self, name: [u8; 8], count: u16) -> Result<(), u8> {
-            if self.pairs > 0 {
-                return Err(4);
-            }
-            if self.labels == 64 {
-                return Err(5);
-            }
-            if !well_formed(&name) {
-                return Err(6);
-            }
-            if self.names[..self.labels].contains(&name) {
-                return Err(7);
-            }
-            self.names[self.labels] = name;
-            self.counts[self.labels] = count as u32;
-            self.labels += 1;
-            Ok(())
-        }
-
-        fn pair(&mut self, upper: u8, lower: u8) -> Result<(), u8> {
-            if self.pairs == 512 {
-                return Err(5);
-            }
-            if upper as usize >= self.labels || lower as usize >= self.labels {
-                return Err(8);
-            }
-            if upper >= lower {
-                return Err(9);
-            }
-            self.over[self.pairs] = (upper, lower);
-            self.placed[lower as usize] = true;
-            self.pairs += 1;
-            Ok(())
-        }
+        pairs: Vec<(u8, u8)>,
     }
 
     fn read(file: &[u8]) -> Result<Policy, u8> {
-        if file.is_empty() {
-            return Err(1);
+        let read = policy::read(file)?;
+        let mut counts = [0; 64];
+        for (summand, count) in counts.iter_mut().zip(&read.counts) {
+            *summand = *count as u32;
         }
-        let mut policy = Policy {
-            labels: 0,
-            pairs: 0,
-            names: [[0; 8]; 64],
-            counts: [0; 64],
-            over: [(0, 0); 512],
-            placed: [false; 64],
-        };
-        let mut rest = file;
-        while !rest.is_empty() {
-            let length = match rest.get(..2) {
-                Some(b"LB") => 12,
-                Some(b"OV") => 4,
-                _ => return Err(2),
-            };
-            if rest.len() < length {
-                return Err(3);
-            }
-            let (record, after) = rest.split_at(length);
-            if length == 12 {
-                policy.label(record[2..10].try_into().unwrap(), u16::from_be_bytes([record[10], record[11]]))?;
-            } else {
-                policy.pair(record[2], record[3])?;
-            }
-            rest = after;
-        }
-        if policy.placed[..policy.labels].iter().skip(1).all(|placed| *placed) {
-            Ok(policy)
-        } else {
-            Err(10)
-        }
+        Ok(Policy { labels: read.names.len(), counts, pairs: read.pairs })
     }
 
     /// Entry l of row m says that m is at or below l. An upper label has the smaller number, so the rows above
@@ -135,7 +50,7 @@ mod plain {
         for label in 0..policy.labels {
             rows[label][label] = true;
         }
-        for (upper, lower) in &policy.over[..policy.pairs] {
+        for (upper, lower) in &policy.pairs {
             rows[*lower as usize][*upper as usize] = true;
         }
         for lower in 0..policy.labels {
@@ -238,7 +153,7 @@ mod plain {
     pub fn weigh(file: &[u8], tree: &[u8]) -> Weighed {
         match weighed(file, tree) {
             Ok((total, least)) => Weighed { refusal: 0, total, least },
-            Err(refusal) => Weighed { refusal, ..Weighed::default() },
+            Err(refusal) => Weighed { refusal, total: 0, least: false },
         }
     }
 }

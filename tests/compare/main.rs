@@ -6,6 +6,7 @@
 mod brute;
 mod files;
 mod group;
+mod library;
 mod ours;
 mod plans;
 mod policy;

@@ -1,77 +1,7 @@
 //! The proved library, through its C interface. Each wrapper takes slices and gives plain values.
 
-use crate::policy::Policy;
-use crate::tree::Plan;
-
-#[repr(C)]
-struct Digest {
-    refusal: u8,
-    bytes: [u8; 32],
-}
-
-#[repr(C)]
-#[derive(Clone, Copy)]
-struct Pair {
-    upper: u8,
-    lower: u8,
-}
-
-#[repr(C)]
-struct PolicyRead {
-    refusal: u8,
-    labels: usize,
-    pairs: usize,
-    counts: [u16; 64],
-    over: [Pair; 512],
-}
-
-#[repr(C)]
-struct PlanMade {
-    refusal: u8,
-    labels: usize,
-    parents: [u8; 64],
-    weights: [u32; 64],
-    sizes: [u8; 64],
-    total: u32,
-}
-
-#[repr(C)]
-struct Weighed {
-    refusal: u8,
-    total: u32,
-    least: bool,
-}
-
-#[repr(C)]
-struct Written {
-    refusal: u8,
-    length: usize,
-}
-
-extern "C" {
-    fn yendlowa_sha256(message: *const u8, length: usize) -> Digest;
-    fn yendlowa_hmac_sha256(
-        key: *const u8,
-        key_length: usize,
-        message: *const u8,
-        message_length: usize,
-    ) -> Digest;
-    fn yendlowa_read_policy(policy: *const u8, length: usize) -> PolicyRead;
-    fn yendlowa_order(policy: *const u8, length: usize, rows: *mut [[bool; 64]; 64]) -> u8;
-    fn yendlowa_plan(policy: *const u8, length: usize) -> PlanMade;
-    fn yendlowa_weigh(
-        policy: *const u8,
-        policy_length: usize,
-        tree: *const u8,
-        tree_length: usize,
-    ) -> Weighed;
-    fn yendlowa_plan_text(
-        policy: *const u8,
-        policy_length: usize,
-        out: *mut u8,
-        out_length: usize,
-    ) -> Written;
-}
+use crate::library::*;
+use crate::{policy, tree};
 
 pub fn sha256(message: &[u8]) -> (u8, [u8; 32]) {
     let digest = unsafe { yendlowa_sha256(message.as_ptr(), message.len()) };
@@ -110,13 +40,13 @@ pub fn order(policy: &[u8]) -> (u8, Box<[[bool; 64]; 64]>) {
 }
 
 /// What `read_policy` should give for a policy that the second implementation read.
-pub fn expected(policy: &Policy) -> (Vec<u16>, Vec<(u8, u8)>) {
+pub fn expected(policy: &policy::Policy) -> (Vec<u16>, Vec<(u8, u8)>) {
     (policy.counts.clone(), policy.pairs.clone())
 }
 
 /// The plan, or the refusal. Entries past the label count, and all beside a refusal, have to be zero; else
 /// the error is 255.
-pub fn plan(policy: &[u8]) -> Result<Plan, u8> {
+pub fn plan(policy: &[u8]) -> Result<tree::Plan, u8> {
     let made = unsafe { yendlowa_plan(policy.as_ptr(), policy.len()) };
     let labels = made.labels;
     let behind_zero = made.parents.iter().skip(labels).all(|parent| *parent == 0)
@@ -128,7 +58,7 @@ pub fn plan(policy: &[u8]) -> Result<Plan, u8> {
     if made.refusal != 0 {
         return Err(made.refusal);
     }
-    Ok(Plan {
+    Ok(tree::Plan {
         parents: made.parents[..labels].to_vec(),
         weights: made.weights[..labels].to_vec(),
         sizes: made.sizes[..labels].to_vec(),

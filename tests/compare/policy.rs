@@ -13,8 +13,8 @@ pub struct Policy {
 
 /// Capital letters and digits, then padding spaces, and not spaces alone.
 pub fn well_formed(name: &[u8]) -> bool {
-    let text: Vec<u8> = name.iter().rev().copied().skip_while(|b| *b == b' ').collect();
-    !text.is_empty() && text.iter().all(|b| b.is_ascii_uppercase() || b.is_ascii_digit())
+    let length = name.iter().rposition(|b| *b != b' ').map_or(0, |last| last + 1);
+    length > 0 && name[..length].iter().all(|b| b.is_ascii_uppercase() || b.is_ascii_digit())
 }
 
 /// Reads a whole file, or gives the number of its refusal.
@@ -22,7 +22,11 @@ pub fn read(file: &[u8]) -> Result<Policy, u8> {
     if file.is_empty() {
         return Err(1);
     }
-    let mut policy = Policy::default();
+    let mut policy = Policy {
+        names: Vec::with_capacity(MOST_LABELS),
+        counts: Vec::with_capacity(MOST_LABELS),
+        pairs: Vec::with_capacity(MOST_PAIRS),
+    };
     let mut rest = file;
     while !rest.is_empty() {
         let length = match rest.get(0..2) {
@@ -41,8 +45,11 @@ pub fn read(file: &[u8]) -> Result<Policy, u8> {
         }
         rest = after;
     }
-    let lowers: Vec<u8> = policy.pairs.iter().map(|pair| pair.1).collect();
-    if (1..policy.names.len()).any(|label| !lowers.contains(&(label as u8))) {
+    let mut lower = [false; MOST_LABELS];
+    for pair in &policy.pairs {
+        lower[pair.1 as usize] = true;
+    }
+    if lower[..policy.names.len()].iter().skip(1).any(|placed| !placed) {
         return Err(10);
     }
     Ok(policy)

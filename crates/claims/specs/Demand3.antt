@@ -2,8 +2,8 @@
 -- equals the fewest keys of any tree with any sufficient sets, exactly when every label under the top hangs from a parent of least weight.
 -- The plan's tree hangs so and its total is the fewest; an offered tree gets its own total, and a yes exactly when the two are equal."
 -- What is meant by tree, sufficient set, assignment, keys and fewest stands in the trees crate's specs/Trees.antt and uses the policy's
--- records alone; weight, smallest set and total stand in its specs/Weights.antt; what `plan` and `weigh` answer, in the planner crate's specs/.
-use Prim.Native.Nat.{ℕ, _+_, _^_, _≤_, _<_}
+-- records alone; weight, smallest set and total stand in its specs/Weights.antt; what `plan_policy` and `weigh` answer, in the planner crate's specs/.
+use Prim.Native.Nat.{ℕ, _+_, _≤_, _<_}
 use mathlib.Core.Bool.{Bool, true}
 use mathlib.Core.List.{List, List·Memᴰ}
 use mathlib.Core.Logic.{_↔_, _≢_}
@@ -69,7 +69,7 @@ pub record OfTree (file : List ℕ) (parent : ℕ → ℕ) : Type 0 where
   -- parent of least weight"
   pub equals : (k : ℕ) → FewestOf file k → (totalOf file parent ≡ k) ↔ HangsSo file parent
 
--- the plan, as `plan` answers it
+-- the plan, as `plan_policy` answers it
 pub record OfPlan (file : List ℕ) : Type 0 where
   -- "The plan's tree": the table of parents is a derivation tree
   pub tree : TreeOf file (entries (planOf file .parents))

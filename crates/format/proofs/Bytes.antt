@@ -1,15 +1,15 @@
--- Laws of byte strings: their comparison, and the eight bytes at a place.
-use Prim.Native.Nat.{ℕ, _+_, _≤_, _<_}
+-- Laws of byte strings: their comparison, and the bytes at a place.
+use Prim.Native.Nat.{ℕ, zero, suc, _+_, _≤_, _<_}
 use mathlib.Core.Bool.{Bool, true, false, _&&_, false≢true}
 use mathlib.Core.List.{List, [], _∷_}
-use mathlib.Core.Path.{_≡_, refl}
+use mathlib.Core.Path.{_≡_, refl, _∙_}
 use native.Mathlib.Nat.{add-assoc}
 use native.Mathlib.Numerals.{add-one}
 use native.Mathlib.Omega.{arith}
 use lib.Dec.{eqb}
 use lib.ListN.{length, getD, drop, drop-of-length-le}
 use lib.Seq.{drop-cons}
-use borrow.Author.Tests.{eq-eqb, ne-eqb, eqb-true}
+use borrow.Author.Tests.{eq-eqb, eqb-true}
 use Rattle.format.specs.Bytes.{bytesAt, sameBytes}
 
 -- a string from place i on is its byte there and the string from the next place on
@@ -46,35 +46,55 @@ differ a b n = go (sameBytes a b) refl
     go true e = absurd (n (same-eq a b e))
     go false e = refl
 
--- a comparison that goes from byte to byte: it stops at a difference, or goes on
-module _ (a b : List ℕ) (i : ℕ) (ha : i < length a) (hb : i < length b) where
-  pub same-stops : (getD a i 0 ≡ getD b i 0 → ⊥) → sameBytes (drop i a) (drop i b) ≡ false
+-- two strings of n bytes are the same if the first n bytes of both agree, one by one
+abbrev pub agree : List ℕ → List ℕ → ℕ → Bool
+agree a b zero = true
+agree a b (suc n) = agree a b n && eqb (getD a n 0) (getD b n 0)
+
+and-assoc : (a b c : Bool) → a && (b && c) ≡ (a && b) && c
+and-assoc true b c = refl
+and-assoc false b c = refl
+
+and-end : (a : Bool) → a && true ≡ a
+and-end true = refl
+and-end false = refl
+
+module _ (a b : List ℕ) where
+  through : (n : ℕ) → n ≤ length a → n ≤ length b → sameBytes a b ≡ agree a b n && sameBytes (drop n a) (drop n b)
   unfolding sameBytes
-  same-stops n = rw (drop-next a i, drop-next b i, ne-eqb (getD a i 0) (getD b i 0) n)
+  through zero ha hb = refl
+  through (suc n) ha hb =
+      through n (omega arith) (omega arith)
+      ∙ rw (next (omega arith) (omega arith)) (and-assoc (agree a b n) (eqb (getD a n 0) (getD b n 0)) (sameBytes (drop (suc n) a) (drop (suc n) b)))
+    where
+      next : n < length a → n < length b → sameBytes (drop n a) (drop n b) ≡ eqb (getD a n 0) (getD b n 0) && sameBytes (drop (suc n) a) (drop (suc n) b)
+      next la lb = rw (drop-cons a n 0 la, drop-cons b n 0 lb)
 
-  pub same-goes-on : getD a i 0 ≡ getD b i 0 → sameBytes (drop i a) (drop i b) ≡ sameBytes (drop (i + 1) a) (drop (i + 1) b)
+  pub same-agree : (n : ℕ) → length a ≡ n → length b ≡ n → sameBytes a b ≡ agree a b n
   unfolding sameBytes
-  same-goes-on e = rw (drop-next a i, drop-next b i, eq-eqb (getD a i 0) (getD b i 0) e)
+  same-agree n ha hb =
+      through n (omega arith) (omega arith)
+      ∙ rw (drop-of-length-le a {i = n} (omega arith), drop-of-length-le b {i = n} (omega arith)) (and-end (agree a b n))
 
-pub same-ends : (a b : List ℕ) (i : ℕ) → length a ≤ i → length b ≤ i → sameBytes (drop i a) (drop i b) ≡ true
-unfolding sameBytes
-same-ends a b i ha hb = rw (drop-of-length-le a ha, drop-of-length-le b hb)
+-- the bytes at a place, one by one
+module _ (s : List ℕ) (at : ℕ) where
+  on : (k : ℕ) → at + k < length s → drop (at + k) s ≡ getD s (at + k) 0 ∷ drop (at + (k + 1)) s
+  on k l = rw (← (add-assoc at k 1), drop-next s (at + k) l)
 
--- the eight bytes at a place, one by one
-pub eight : (s : List ℕ) (at : ℕ) → at + 8 ≤ length s
-    → getD s at 0 ∷ getD s (at + 1) 0 ∷ getD s (at + 2) 0 ∷ getD s (at + 3) 0 ∷ getD s (at + 4) 0 ∷ getD s (at + 5) 0
-    ∷ getD s (at + 6) 0 ∷ getD s (at + 7) 0 ∷ [] ≡ bytesAt s at 8
-eight s at h =
-    rw (
-      drop-next s at (omega arith),
-      on 1 (omega arith),
-      on 2 (omega arith),
-      on 3 (omega arith),
-      on 4 (omega arith),
-      on 5 (omega arith),
-      on 6 (omega arith),
-      on 7 (omega arith),
-    )
-  where
-    on : (k : ℕ) → at + k < length s → drop (at + k) s ≡ getD s (at + k) 0 ∷ drop (at + (k + 1)) s
-    on k l = rw (← (add-assoc at k 1), drop-next s (at + k) l)
+  pub two : at + 2 ≤ length s → getD s at 0 ∷ getD s (at + 1) 0 ∷ [] ≡ bytesAt s at 2
+  two h = rw (drop-next s at (omega arith), on 1 (omega arith))
+
+  pub eight : at + 8 ≤ length s
+      → getD s at 0 ∷ getD s (at + 1) 0 ∷ getD s (at + 2) 0 ∷ getD s (at + 3) 0 ∷ getD s (at + 4) 0 ∷ getD s (at + 5) 0
+      ∷ getD s (at + 6) 0 ∷ getD s (at + 7) 0 ∷ [] ≡ bytesAt s at 8
+  eight h =
+      rw (
+        drop-next s at (omega arith),
+        on 1 (omega arith),
+        on 2 (omega arith),
+        on 3 (omega arith),
+        on 4 (omega arith),
+        on 5 (omega arith),
+        on 6 (omega arith),
+        on 7 (omega arith),
+      )

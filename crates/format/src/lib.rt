@@ -77,29 +77,26 @@ pub fn well_formed(name: &[u8]) -> bool
     some
 }
 
-// Whether two byte strings are the same.
-pub fn same(a: &[u8], b: &[u8]) -> bool
-    ensures { λ r. ⌜ r ≡ sameBytes (now (a .entry)) (now (b .entry)) ⌝ }
+// Whether two names are the same.
+pub fn same_name(a: [u8; 8], b: [u8; 8]) -> bool
+    ensures { λ r. ⌜ r ≡ sameBytes a b ⌝ }
 {
-    if a.len() != b.len() {
-        return false;
-    }
-    let mut i = 0;
-    while i < a.len() {
-        if a[i] != b[i] {
-            return false;
-        }
-        i += 1;
-    }
-    true
+    (a[0] == b[0])
+        & (a[1] == b[1])
+        & (a[2] == b[2])
+        & (a[3] == b[3])
+        & (a[4] == b[4])
+        & (a[5] == b[5])
+        & (a[6] == b[6])
+        & (a[7] == b[7])
 }
 
-// Whether `bytes` stand in `s` from `at` on.
-pub fn stands(s: &[u8], at: usize, bytes: &[u8]) -> bool
-    requires { ⌜ at + length (now bytes) ≤ length (now s) ⌝ }
-    ensures { λ r. ⌜ r ≡ sameBytes (bytesAt (now (s .entry)) at (length (now (bytes .entry)))) (now (bytes .entry)) ⌝ }
+// Whether a mark stands in `s` from `at` on.
+pub fn marked(s: &[u8], at: usize, mark: [u8; 2]) -> bool
+    requires { ⌜ at + 2 ≤ length (now s) ⌝ }
+    ensures { λ r. ⌜ r ≡ sameBytes (bytesAt (now (s .entry)) at 2) mark ⌝ }
 {
-    same(&s[at..at + bytes.len()], bytes)
+    (s[at] == mark[0]) & (s[at + 1] == mark[1])
 }
 
 // The name that stands in `s` from `at` on.

@@ -18,15 +18,6 @@ pub record Some (p : ℕ → Bool) (n : ℕ) : Type 0 where
   pub here : p at ≡ true
 
 module _ (p : ℕ → Bool) where
-  -- a scan upwards: nothing below 0, and one number more
-  pub none-below : someBelow p 0 ≡ false
-  unfolding someBelow
-  none-below = refl
-
-  pub none-more : (n : ℕ) → someBelow p n ≡ false → p n ≡ false → someBelow p (n + 1) ≡ false
-  unfolding someBelow
-  none-more n e h = rw (add-one, e, h)
-
   pub some-at : (n k : ℕ) → k < n → p k ≡ true → someBelow p n ≡ true
   unfolding someBelow
   some-at zero k l h = absurd (omega arith)

@@ -6,11 +6,11 @@ use mathlib.Core.Logic.{_⊎_, inl, inr, _↔_}
 use mathlib.Core.Path.{_≡_, refl, sym, ap, _∙_}
 use native.Mathlib.Decide.{ℕ-discrete}
 use native.Mathlib.Omega.{arith}
-use lib.ListN.{getD, replicate}
+use lib.ListN.{getD}
 use Rattle.order.specs.declared.Pair.{Pair}
 use Rattle.order.specs.Order.{AtOrBelow, same, down, Proper}
-use Rattle.order.specs.Table.{noRow, linked, labelRow, rowsBelow, orderTable, atOrBelow}
-use Rattle.order.proofs.Lists.{getD-replicate-all, not-yes}
+use Rattle.order.specs.Table.{linked, labelRow, rowsBelow, orderTable, atOrBelow}
+use Rattle.order.proofs.Lists.{not-yes}
 use Rattle.order.proofs.Order.{at-or-below-le}
 use Rattle.order.proofs.Table.{none-yet, linked-mem, mem-linked, Source, row-self, row-adds, row-only, Square, rowsBelow-square, made, kept, row-made, row-stays}
 

@@ -1,13 +1,12 @@
 -- The table of an accepted policy as an order with yes-or-no values, for a theory that takes such an order.
 use Prim.Native.Nat.{ℕ, _≤_, _<_}
-use mathlib.Core.Bool.{true, false, false≢true}
+use mathlib.Core.Bool.{true}
 use mathlib.Core.List.{List}
-use mathlib.Core.Path.{_≡_, sym, _∙_}
+use mathlib.Core.Path.{_≡_}
 use native.Mathlib.Omega.{arith}
 use Rattle.order.specs.declared.Pair.{Pair}
 use Rattle.order.specs.Order.{AtOrBelow, Proper, Topped}
 use Rattle.order.specs.Table.{orderTable, atOrBelow}
-use Rattle.order.proofs.Lists.{not-yes}
 use Rattle.order.proofs.Order.{at-or-below-refl, at-or-below-trans, at-or-below-le, at-or-below-antisym, at-or-below-top}
 use Rattle.order.proofs.Exact.{table-exact}
 
@@ -18,12 +17,6 @@ module _ {labels : ℕ} {pairs : List Pair} (proper : Proper labels pairs) where
 
   pub table-below : (m l : ℕ) → atOrBelow (orderTable labels pairs) m l ≡ true → AtOrBelow pairs m l
   table-below m l h = table-exact proper m l .0 h .2
-
-  pub table-no : (m l : ℕ) → (AtOrBelow pairs m l → ⊥) → atOrBelow (orderTable labels pairs) m l ≡ false
-  table-no m l h = not-yes (atOrBelow (orderTable labels pairs) m l) (λ t. h (table-below m l t))
-
-  pub table-not-below : (m l : ℕ) → m < labels → atOrBelow (orderTable labels pairs) m l ≡ false → AtOrBelow pairs m l → ⊥
-  table-not-below m l hm e h = false≢true (sym e ∙ table-yes hm h)
 
   pub table-refl : (m : ℕ) → m < labels → atOrBelow (orderTable labels pairs) m m ≡ true
   table-refl m hm = table-yes hm (at-or-below-refl pairs m)

@@ -1,4 +1,4 @@
--- What `plan` answers for a policy file: demand 3's "The plan's tree hangs so and its total is the fewest" of the tables in the answer, and
+-- What `plan_policy` answers for a policy file: demand 3's "The plan's tree hangs so and its total is the fewest" of the tables in the answer, and
 -- zeros for a refused file.
 use Prim.Native.Nat.{ℕ, _+_, _^_, _≤_, _<_}
 use mathlib.Core.Bool.{Bool, not}
@@ -25,11 +25,11 @@ use Rattle.trees.proofs.Widths.{total-bound}
 use Rattle.trees.specs.Order.{Order}
 use Rattle.trees.specs.Sums.{sum, sumWhere}
 use Rattle.trees.specs.Trees.{top, Tree, Fewest}
-use Rattle.trees.specs.Weights.{weight, smallest, total, weights, LeastWeight, HangsLeast}
+use Rattle.trees.specs.Weights.{weight, smallest, total, weights, plan, LeastWeight, HangsLeast}
 use Rattle.weights.proofs.Reading.{entries-filled, entries-past, heldWeight-top, heldWeight-under, entries-weight, entries-weight-past, entries-size, entries-size-past}
 use Rattle.weights.specs.Tables.{entries, weightTable, setSize, sizeTable}
 use Rattle.planner.proofs.PolicyOrder.{policy-order}
-use Rattle.planner.specs.Planned.{testOf, planTree, treeTotal, planOf, refusedPlan}
+use Rattle.planner.specs.Planned.{testOf, planned, planOf, refusedPlan}
 
 -- ---- an accepted policy
 
@@ -46,23 +46,26 @@ module _ (file : List ℕ) (ok : Accepted file) where
   abbrev le : ℕ → ℕ → Bool
   le = testOf file
 
+  -- the tree that is defined, and the table in the answer
+  abbrev tree : ℕ → ℕ
+  tree = plan n count le
+
   abbrev parents : ℕ → ℕ
   parents = entries (planOf file .parents)
 
   order : Order n R le
   order = policy-order file ok
 
-  -- the tree that is defined hangs from parents of least weight
-  tree-hangs : HangsLeast n count R le (planTree file)
-  unfolding planTree
+  -- the tree hangs from parents of least weight
+  tree-hangs : HangsLeast n count R le tree
   tree-hangs = plan-hangs order count
 
   -- and the table holds it
-  parents-same : SameParents n (planTree file) parents
-  unfolding planOf
+  parents-same : SameParents n tree parents
+  unfolding planOf planned
   parents-same = record {
     labels = λ m hm ne. tree-hangs .hangs m hm ne .above .label;
-    agree = λ m hm ne. sym (entries-filled (planTree file) n m hm);
+    agree = λ m hm ne. sym (entries-filled tree n m hm);
   }
 
   -- "The plan's tree hangs so"
@@ -76,12 +79,11 @@ module _ (file : List ℕ) (ok : Accepted file) where
 
   -- 01: "of several, the one with the lowest number"
   pub plan-answer-lowest : (m : ℕ) → m < n → m ≢ top → (q : ℕ) → LeastWeight n count R le q m → parents m ≤ q
-  unfolding planTree
   plan-answer-lowest m hm ne q L = subst (λ (p : ℕ). p ≤ q) (parents-same .agree m hm ne) (plan-lowest order count m hm ne q L)
 
   -- "and its total is the fewest"
   pub plan-answer-total : planOf file .total ≡ total n count le parents
-  unfolding planOf treeTotal
+  unfolding planOf planned
   plan-answer-total = total-agree (λ l hl. refl) (λ m l hm hl. refl) parents-same
 
   pub plan-answer-fewest : Fewest n count R (planOf file .total)
@@ -89,20 +91,20 @@ module _ (file : List ℕ) (ok : Accepted file) where
 
   -- 01: "weight (for the top its accounts), keys held by one account"
   pub plan-answer-weights : (m : ℕ) → m < n → m ≢ top → entries (planOf file .weights) m ≡ weight n count le (parents m) m
-  unfolding planOf
+  unfolding planOf planned
   plan-answer-weights m hm ne =
-      entries-weight n count le (planTree file) m hm
-      ∙ heldWeight-under n count le (planTree file) m ne
+      entries-weight n count le tree m hm
+      ∙ heldWeight-under n count le tree m ne
       ∙ ap (λ (p : ℕ). weight n count le p m) (parents-same .agree m hm ne)
 
   pub plan-answer-top-weight : entries (planOf file .weights) top ≡ count top
-  unfolding planOf
-  plan-answer-top-weight = entries-weight n count le (planTree file) top (order .some) ∙ heldWeight-top n count le (planTree file) top refl
+  unfolding planOf planned
+  plan-answer-top-weight = entries-weight n count le tree top (order .some) ∙ heldWeight-top n count le tree top refl
 
   pub plan-answer-sizes : (l : ℕ) → l < n → entries (planOf file .sizes) l ≡ length (smallest n le parents l)
-  unfolding planOf setSize
+  unfolding planOf planned setSize
   plan-answer-sizes l hl =
-      entries-size n le (planTree file) l hl
+      entries-size n le tree l hl
       ∙ ap (length {A = ℕ}) (smallest-agree {count = count} {count′ = count} (λ l hl. refl) (λ m l hm hl. refl) parents-same l hl)
 
   -- 01: "It equals the top's accounts plus the weights of all chosen parents."
@@ -122,21 +124,24 @@ module _ (file : List ℕ) (ok : Accepted file) where
 -- ---- every file
 
 module _ (file : List ℕ) where
+  abbrev treeOf : ℕ → ℕ
+  treeOf = plan (labelsOf file) (countOf file) (testOf file)
+
   -- "Entries past the label count are 0"
   pub plan-answer-past : (m : ℕ) → labelsOf file ≤ m
       → (entries (planOf file .parents) m ≡ 0) × (entries (planOf file .weights) m ≡ 0) × (entries (planOf file .sizes) m ≡ 0)
-  unfolding planOf
+  unfolding planOf planned
   plan-answer-past m h = (
-    entries-past (planTree file) (labelsOf file) m h,
-    entries-weight-past (labelsOf file) (countOf file) (testOf file) (planTree file) m h,
-    entries-size-past (labelsOf file) (testOf file) (planTree file) m h,
+    entries-past treeOf (labelsOf file) m h,
+    entries-weight-past (labelsOf file) (countOf file) (testOf file) treeOf m h,
+    entries-size-past (labelsOf file) (testOf file) treeOf m h,
   )
 
   -- a total has its place in 32 bits, with room to spare
   pub plan-total-small : ((i : ℕ) → getD file i 0 < 256) → planOf file .total < 2 ^ 28
-  unfolding planOf treeTotal
+  unfolding planOf planned
   plan-total-small bytes =
-      total-bound (labelsOf file) (bounds file .0) (testOf file) (countOf file) (λ l hl. omega (arith, count-small file bytes l)) (planTree file)
+      total-bound (labelsOf file) (bounds file .0) (testOf file) (countOf file) (λ l hl. omega (arith, count-small file bytes l)) treeOf
 
   no-labels : 0 < refusalOf file → labelsOf file ≡ 0
   unfolding policyOf
@@ -144,5 +149,5 @@ module _ (file : List ℕ) where
 
   -- "With a refusal every number in the answer is 0"
   pub plan-refused : 0 < refusalOf file → planOf file ≡ refusedPlan (refusalOf file)
-  unfolding planOf treeTotal weightTable sizeTable listed total sum
+  unfolding planOf planned weightTable sizeTable listed total sum
   plan-refused h = rw (no-labels h)

@@ -17,10 +17,10 @@ use Rattle.trees.specs.Weights.{total, least}
 use Rattle.planner.proofs.PlanAnswer.{plan-answer-fewest}
 use Rattle.planner.proofs.PolicyOrder.{policy-order}
 use Rattle.planner.proofs.TreeNumbers.{tree-accepted}
-use Rattle.planner.specs.Planned.{testOf, treeTotal, planOf}
+use Rattle.planner.specs.Planned.{testOf, planOf}
 use Rattle.planner.specs.TreeFile.{parentIn, treeRefusal}
 use Rattle.planner.specs.TreeRows.{GivesTree}
-use Rattle.planner.specs.Weighing.{weighRefusal, refusedWeighed, weighOf}
+use Rattle.planner.specs.Weighing.{weighRefusal, refusedWeighed, treeWeighed, weighOf}
 use Rattle.planner.specs.declared.Weighed.{Weighed}
 
 module _ (policy tree : List ℕ) where
@@ -63,7 +63,7 @@ module _ (policy tree : List ℕ) where
     -- ---- files that are read
 
     pub weigh-number : answer .refusal ≡ treeRefusal n le tree
-    unfolding weighOf
+    unfolding weighOf treeWeighed
     weigh-number = go (eqb (weighRefusal policy tree) 0) refl ∙ number
       where
         go : (b : Bool) → eqb (weighRefusal policy tree) 0 ≡ b → weighOf policy tree .refusal ≡ weighRefusal policy tree
@@ -88,11 +88,11 @@ module _ (policy tree : List ℕ) where
 
       -- "an offered tree gets its own total"
       pub weigh-total : answer .total ≡ total n count le (parentIn tree)
-      unfolding weighOf treeTotal
+      unfolding weighOf treeWeighed
       weigh-total = rw passed
 
       weigh-least : answer .least ≡ least n count le (parentIn tree)
-      unfolding weighOf
+      unfolding weighOf treeWeighed
       weigh-least = rw passed
 
       -- "and a yes exactly when the two are equal": its own total and the fewest

@@ -16,9 +16,9 @@ use Rattle.policy.specs.Whole.{isLowerOf, isLower, isPlaced, atEnd, scanFrom, s
 use Rattle.trees.specs.Sums.{sum, sumWhere, select}
 use Rattle.trees.specs.Weights.{weighed, weight, inSmallest, smallest, labelKeys, total, takes, best, leastParent, plan, least}
 use Rattle.weights.specs.Tables.{heldWeight, weightTable, setSize, sizeTable}
-use Rattle.planner.specs.Planned.{planTree, treeTotal, planOf, refusedPlan}
+use Rattle.planner.specs.Planned.{planned, planOf, refusedPlan}
 use Rattle.planner.specs.TreeFile.{parentIn, hangsAt, treeRefusal}
-use Rattle.planner.specs.Weighing.{weighRefusal, refusedWeighed, weighOf}
+use Rattle.planner.specs.Weighing.{treeWeighed, weighRefusal, refusedWeighed, weighOf}
 use Rattle.planner.specs.declared.Plan.{Plan}
 use Rattle.planner.specs.declared.Weighed.{Weighed}
 
@@ -56,7 +56,7 @@ single = record { refusal = 0; labels = 1; parents = table 0 0 0 0; weights = ta
 
 -- the last is "Empty policy: 1"
 pub plans : map planOf (E ∷ chain ∷ one ∷ [] ∷ []) ≡ listing ∷ chained ∷ single ∷ refusedPlan 1 ∷ []
-unfolding sameBytes classOf padding formed someNoSpace wellFormed firstFrom someBelow everyBelow listed joined linked rowUpTo labelRow rowsBelow orderTable nameOf countOf pairAt isNamed labelNamed labelKind overKind markedKind kindAt isLowerOf isLower isPlaced atEnd scanFrom scanned pairsOf orderOf sum sumWhere select weighed weight inSmallest smallest labelKeys total takes best leastParent plan heldWeight weightTable setSize sizeTable planTree treeTotal planOf
+unfolding sameBytes classOf padding formed someNoSpace wellFormed firstFrom someBelow everyBelow listed joined linked rowUpTo labelRow rowsBelow orderTable nameOf countOf pairAt isNamed labelNamed labelKind overKind markedKind kindAt isLowerOf isLower isPlaced atEnd scanFrom scanned pairsOf orderOf sum sumWhere select weighed weight inSmallest smallest labelKeys total takes best leastParent plan heldWeight weightTable setSize sizeTable planned planOf
 plans = refl
 
 pub plan-E : planOf E ≡ listing
@@ -69,7 +69,7 @@ pub offered : map (weighOf E)
     ∷ tree (0 ∷ 0 ∷ 0 ∷ 3 ∷ []) ∷ tree (1 ∷ 0 ∷ 0 ∷ 2 ∷ []) ∷ (84 ∷ []) ∷ (84 ∷ 83 ∷ 0 ∷ 0 ∷ 0 ∷ 2 ∷ []) ∷ [])
     ≡ weighedAs 19 false ∷ weighedAs 22 false ∷ weighedAs 17 true ∷ refusedWeighed 12 ∷ refusedWeighed 11
     ∷ refusedWeighed 12 ∷ refusedWeighed 12 ∷ refusedWeighed 2 ∷ refusedWeighed 2 ∷ []
-unfolding sameBytes classOf padding formed someNoSpace wellFormed firstFrom someBelow everyBelow listed joined linked rowUpTo labelRow rowsBelow orderTable nameOf countOf pairAt isNamed labelNamed labelKind overKind markedKind kindAt isLowerOf isLower isPlaced atEnd scanFrom scanned pairsOf orderOf sum sumWhere select weighed weight inSmallest smallest labelKeys total takes best leastParent plan least treeTotal parentIn hangsAt treeRefusal weighRefusal weighOf
+unfolding sameBytes classOf padding formed someNoSpace wellFormed firstFrom someBelow everyBelow listed joined linked rowUpTo labelRow rowsBelow orderTable nameOf countOf pairAt isNamed labelNamed labelKind overKind markedKind kindAt isLowerOf isLower isPlaced atEnd scanFrom scanned pairsOf orderOf sum sumWhere select weighed weight inSmallest smallest labelKeys total takes best leastParent plan least treeWeighed parentIn hangsAt treeRefusal weighRefusal weighOf
 offered = refl
 
 -- a refused policy comes before a tree file without its mark

@@ -1,14 +1,15 @@
--- From the tables that are worked out, over the counts of `read_policy`'s answer, to those of the definitions, over the file's.
+-- From what is worked out, over the counts of `read_policy`'s answer, to what the definitions say of the file.
 use Prim.Native.Nat.{ℕ, _≤_, _<_}
 use mathlib.Core.Bool.{Bool, true, false}
 use mathlib.Core.List.{List}
 use mathlib.Core.Logic.{_⊎_, inl, inr}
-use mathlib.Core.Path.{_≡_, refl, sym, ap, ap₂, _∙_}
+use mathlib.Core.Path.{_≡_, refl, sym, ap, _∙_}
 use native.Mathlib.Omega.{arith}
 use borrow.Author.Tests.{ltb-true, ltb-false, eq-eqb}
 use lib.Dec.{eqb, ltb}
 use lib.ListN.{take}
 use Rattle.lists.specs.Tables.{filled}
+use Rattle.lists.proofs.Listed.{filled-same}
 use Rattle.order.specs.Order.{AtOrBelow}
 use Rattle.order.specs.Table.{orderTable, atOrBelow}
 use Rattle.policy.proofs.Answer.{counts-at, over-order}
@@ -17,18 +18,17 @@ use Rattle.policy.specs.File.{countOf}
 use Rattle.policy.specs.Whole.{refusalOf, labelsOf, pairsOf, Accepted, orderOf, policyOf}
 use Rattle.policy.specs.declared.Policy.{Policy}
 use Rattle.trees.proofs.Order.{is-top}
-use Rattle.trees.proofs.Tables.{SameCounts, SameTests, SameParents, total-agree}
-use Rattle.trees.specs.Weights.{total, least}
-use Rattle.weights.proofs.Agree.{parentTable-agree, weightTable-agree, sizeTable-agree, sizes-total}
+use Rattle.trees.proofs.Tables.{SameCounts, SameTests, SameParents, leastParent-agree, plan-agree, total-agree, least-agree}
+use Rattle.trees.specs.Weights.{total, plan, least}
+use Rattle.weights.proofs.Agree.{weightTable-agree, sizeTable-agree, plan-total}
 use Rattle.weights.proofs.Reading.{entries-filled, plan-early, entries-parent, entries-parent-past, parent-plan}
 use Rattle.weights.specs.Tables.{entries, parentTable, weightTable, sizeTable, keyTotal, Rowed}
 use Rattle.planner.proofs.PolicyOrder.{policy-order}
 use Rattle.planner.proofs.TreeNumbers.{tree-accepted}
-use Rattle.planner.specs.Planned.{testOf, planTree, treeTotal, planOf}
+use Rattle.planner.specs.Planned.{testOf, planned, planOf}
 use Rattle.planner.specs.TreeFile.{parentIn, treeRefusal}
 use Rattle.planner.specs.TreeRows.{GivesTree}
-use Rattle.planner.specs.Weighing.{weighRefusal, weighOf}
-use Rattle.planner.specs.declared.Plan.{Plan}
+use Rattle.planner.specs.Weighing.{weighRefusal, treeWeighed, weighOf}
 
 -- a table of chosen parents has a row for each entry
 pub table-rowed : (k : ℕ) (count : ℕ → ℕ) (le : ℕ → ℕ → Bool) (n : ℕ) → k ≤ 64 → Rowed n (parentTable k count le)
@@ -37,6 +37,53 @@ table-rowed k count le n few m hm = go (ltb m k) refl
     go : (b : Bool) → ltb m k ≡ b → entries (parentTable k count le) m < 64
     go true e = omega (arith, ltb-true m k e, entries-parent k count le m (ltb-true m k e), plan-early k count le m)
     go false e = omega (arith, entries-parent-past k count le m (ltb-false m k e))
+
+-- ---- labels, accounts and the order's test
+
+module _ (n : ℕ) (count : ℕ → ℕ) (le : ℕ → ℕ → Bool) where
+  abbrev chosen : ℕ → ℕ
+  chosen = entries (parentTable n count le)
+
+  same-tests : SameTests n le le
+  same-tests m l hm hl = refl
+
+  -- sizes and total are those of the tree that the table of parents holds
+  pub worked-plan : (refusal : ℕ) → record {
+    refusal = refusal;
+    labels = n;
+    parents = parentTable n count le;
+    weights = weightTable n count le (plan n count le);
+    sizes = sizeTable n le chosen;
+    total = keyTotal n count (entries (sizeTable n le chosen));
+  } ≡ planned refusal n count le
+  unfolding planned parentTable
+  worked-plan refusal = rw (plan-total n count le, sizeTable-agree same-tests (parent-plan n count le))
+
+  -- an offered tree's total beside that of the chosen parents
+  pub worked-answer : (parent : ℕ → ℕ) (t f : ℕ) → t ≡ total n count le parent → f ≡ total n count le chosen
+      → record { refusal = 0; total = t; least = eqb t f } ≡ treeWeighed n count le parent
+  unfolding treeWeighed least
+  worked-answer parent t f et ef =
+      let same : f ≡ total n count le (plan n count le) = ef ∙ total-agree {count = count} {count′ = count} (λ l h. refl) same-tests (parent-plan n count le) in
+      rw (et, same)
+
+-- only the accounts of labels matter, the order of labels and their parents
+module _ {n : ℕ} {count count′ : ℕ → ℕ} {le le′ : ℕ → ℕ → Bool} (c : SameCounts n count count′) (h : SameTests n le le′) where
+  pub planned-agree : (refusal : ℕ) → planned refusal n count le ≡ planned refusal n count′ le′
+  unfolding planned plan
+  planned-agree refusal =
+      rw (
+        filled-same 64 0 (plan n count le) (plan n count′ le′) n (leastParent-agree c h),
+        weightTable-agree c h (plan-agree c h),
+        sizeTable-agree h (plan-agree c h),
+        total-agree c h (plan-agree c h),
+      )
+
+  pub weighed-agree : {parent parent′ : ℕ → ℕ} → SameParents n parent parent′ → treeWeighed n count le parent ≡ treeWeighed n count′ le′ parent′
+  unfolding treeWeighed
+  weighed-agree P = rw (total-agree c h P, least-agree c h P)
+
+-- ---- a policy file
 
 module _ (file : List ℕ) where
   abbrev n : ℕ
@@ -48,10 +95,6 @@ module _ (file : List ℕ) where
   -- the accounts as they are read
   abbrev pub readCounts : ℕ → ℕ
   readCounts = entries (policyOf file .counts)
-
-  -- the table of parents that is worked out of them
-  abbrev pub chosen : List ℕ
-  chosen = parentTable n readCounts le
 
   -- what is read, and the order's table that is worked out of it
   module _ {p : Policy} (same : p ≡ policyOf file) where
@@ -75,60 +118,9 @@ module _ (file : List ℕ) where
   same-counts : SameCounts n readCounts (countOf file)
   same-counts = counts-at file
 
-  same-tests : SameTests n le le
-  same-tests m l hm hl = refl
-
-  -- ---- the plan
-
-  chosen-plan : chosen ≡ parentTable n (countOf file) le
-  chosen-plan = parentTable-agree same-counts same-tests
-
-  pub chosen-parents : chosen ≡ planOf file .parents
-  unfolding planOf planTree parentTable
-  chosen-parents = chosen-plan
-
-  chosen-tree : SameParents n (entries chosen) (planTree file)
-  unfolding planTree
-  chosen-tree = rw chosen-plan (parent-plan n (countOf file) le)
-
-  pub chosen-weights : weightTable n readCounts le (entries chosen) ≡ planOf file .weights
+  pub read-plan : planned (refusalOf file) n readCounts le ≡ planOf file
   unfolding planOf
-  chosen-weights = weightTable-agree same-counts same-tests chosen-tree
-
-  pub chosen-sizes : sizeTable n le (entries chosen) ≡ planOf file .sizes
-  unfolding planOf
-  chosen-sizes = sizeTable-agree same-tests chosen-tree
-
-  -- the total of a tree, over the counts as they are read
-  module _ {parent parent′ : ℕ → ℕ} (P : SameParents n parent parent′) where
-    read-total : total n readCounts le parent ≡ treeTotal file parent′
-    unfolding treeTotal
-    read-total = total-agree same-counts same-tests P
-
-  pub chosen-total : total n readCounts le (entries chosen) ≡ treeTotal file (planTree file)
-  chosen-total = read-total chosen-tree
-
-  -- what is worked out for a plan is what the definition says
-  abbrev pub worked : Plan
-  worked = record {
-    refusal = refusalOf file;
-    labels = n;
-    parents = chosen;
-    weights = weightTable n readCounts le (entries chosen);
-    sizes = sizeTable n le (entries chosen);
-    total = keyTotal n readCounts (entries (sizeTable n le (entries chosen)));
-  }
-
-  pub worked-plan : worked ≡ planOf file
-  unfolding planOf
-  worked-plan =
-      ap₂ (λ (p w : List ℕ). made p w (worked .sizes) (worked .total)) chosen-parents chosen-weights
-      ∙ ap₂ (λ (s : List ℕ) (t : ℕ). made (planOf file .parents) (planOf file .weights) s t) chosen-sizes
-      (sizes-total n readCounts le (entries chosen) ∙ chosen-total)
-    where
-      made : List ℕ → List ℕ → List ℕ → ℕ → Plan
-      made parents weights sizes total =
-          record { refusal = refusalOf file; labels = n; parents = parents; weights = weights; sizes = sizes; total = total }
+  read-plan = planned-agree same-counts (same-tests n readCounts le) (refusalOf file)
 
   -- ---- an offered tree that is read
 
@@ -152,13 +144,6 @@ module _ (file : List ℕ) where
         go (inl e) = omega (arith, ap (parentIn tree) e ∙ gives .topByte)
         go (inr ne) = omega (arith, gives .hung .hangs m hm ne .label, bounds file .0)
 
-    pub offered-total : total n readCounts le (entries offered) ≡ treeTotal file (parentIn tree)
-    offered-total = read-total offered-tree
-
-    pub worked-answer : record {
-      refusal = 0;
-      total = total n readCounts le (entries offered);
-      least = eqb (total n readCounts le (entries offered)) (total n readCounts le (entries chosen));
-    } ≡ weighOf file tree
-    unfolding weighOf weighRefusal least treeTotal planTree
-    worked-answer = rw (eq-eqb (refusalOf file) 0 ok, none, offered-total, chosen-total)
+    pub read-weighed : treeWeighed n readCounts le (entries offered) ≡ weighOf file tree
+    unfolding weighOf weighRefusal
+    read-weighed = rw (eq-eqb (refusalOf file) 0 ok, none) (weighed-agree same-counts (same-tests n readCounts le) offered-tree)

@@ -1,4 +1,4 @@
--- What `plan` answers for a policy file (01, "Tree, weights and key sets").
+-- What `plan_policy` answers for a policy file (01, "Tree, weights and key sets").
 use Prim.Native.Nat.{ℕ}
 use mathlib.Core.Bool.{Bool}
 use mathlib.Core.List.{List}
@@ -11,29 +11,27 @@ use Rattle.lists.specs.Tables.{filled}
 use Rattle.weights.specs.Tables.{weightTable, sizeTable}
 use Rattle.planner.specs.declared.Plan.{Plan}
 
+-- what is planned for n labels with accounts count and the order's test le: "for each label its parent, weight .., keys held by one account",
+-- then 0, and the total
+unfoldable pub planned : (refusal n : ℕ) (count : ℕ → ℕ) (le : ℕ → ℕ → Bool) → Plan
+planned refusal n count le =
+    let tree : ℕ → ℕ = plan n count le in
+    record {
+      refusal = refusal;
+      labels = n;
+      parents = filled 64 0 tree n;
+      weights = weightTable n count le tree;
+      sizes = sizeTable n le tree;
+      total = total n count le tree;
+    }
+
 -- the test of the order of a policy's labels, by its table
 abbrev pub testOf : List ℕ → ℕ → ℕ → Bool
 testOf file = atOrBelow (orderOf file)
 
--- the plan's tree: "The plan takes for each label a parent of least weight; of several, the one with the lowest number."
-unfoldable pub planTree : List ℕ → ℕ → ℕ
-planTree file = plan (labelsOf file) (countOf file) (testOf file)
-
--- the total of a tree of the policy
-unfoldable pub treeTotal : List ℕ → (ℕ → ℕ) → ℕ
-treeTotal file parent = total (labelsOf file) (countOf file) (testOf file) parent
-
--- what `plan` answers: for each label its parent, weight and size of its smallest set, then 0, and the total. A refused file has no labels,
--- so everything beside the refusal is 0.
+-- what `plan_policy` answers. A refused file has no labels, so everything beside the refusal is 0.
 unfoldable pub planOf : List ℕ → Plan
-planOf file = record {
-  refusal = refusalOf file;
-  labels = labelsOf file;
-  parents = filled 64 0 (planTree file) (labelsOf file);
-  weights = weightTable (labelsOf file) (countOf file) (testOf file) (planTree file);
-  sizes = sizeTable (labelsOf file) (testOf file) (planTree file);
-  total = treeTotal file (planTree file);
-}
+planOf file = planned (refusalOf file) (labelsOf file) (countOf file) (testOf file)
 
 -- "With a refusal every number in the answer is 0"
 abbrev pub refusedPlan : ℕ → Plan

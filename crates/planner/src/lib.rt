@@ -6,10 +6,10 @@ ghost use lib.ListN.{length};
 ghost use Rattle.lists.specs.Tables.{filled};
 ghost use Rattle.order.specs.Table.{atOrBelow};
 ghost use Rattle.trees.specs.Weights.{total};
-ghost use Rattle.weights.specs.Tables.{entries, Rowed};
-ghost use Rattle.planner.specs.Planned.{planOf};
+ghost use Rattle.weights.specs.Tables.{entries, Rowed, Falls};
+ghost use Rattle.planner.specs.Planned.{planned, planOf};
 ghost use Rattle.planner.specs.TreeFile.{parentIn, hangsAt, treeRefusal};
-ghost use Rattle.planner.specs.Weighing.{refusedWeighed, weighOf};
+ghost use Rattle.planner.specs.Weighing.{refusedWeighed, treeWeighed, weighOf};
 
 // For each label its parent, its weight (for the top its accounts) and the keys that one account holds, and the total of keys.
 // Entries past the label count are 0, and with a refusal everything is.
@@ -62,7 +62,7 @@ fn tree_refusal(labels: usize, rows: &[[bool; 64]; 64], tree: &[u8]) -> u8
     if tree.len() < 2 {
         return 2;
     }
-    if !format::stands(tree, 0, &TR) {
+    if !format::marked(tree, 0, TR) {
         return 2;
     }
     if tree.len() != 2 + labels {
@@ -101,27 +101,35 @@ fn total_of(labels: usize, counts: &[u16; 64], rows: &[[bool; 64]; 64], parents:
     weights::total_keys(labels, counts, &sizes)
 }
 
+// The plan of labels with their accounts and order.
+fn plan_labels(refusal: u8, labels: usize, counts: &[u16; 64], rows: &[[bool; 64]; 64]) -> Plan
+    requires { ⌜ (labels ≤ 64) × Falls (atOrBelow (now rows)) ⌝ }
+    ensures { λ r. ⌜ r ≡ planned refusal labels (entries (now (counts .entry))) (atOrBelow (now (rows .entry))) ⌝ }
+{
+    let chosen = weights::choose(labels, counts, rows);
+    let parents = chosen.parents;
+    let held = chosen.weights;
+    let sizes = weights::set_sizes(labels, rows, &parents);
+    let total = weights::total_keys(labels, counts, &sizes);
+    Plan {
+        refusal,
+        labels,
+        parents,
+        weights: held,
+        sizes,
+        total,
+    }
+}
+
 // The plan of a policy, or the number of its refusal.
 pub fn plan_policy(policy: &[u8]) -> Plan
     ensures { λ r. ⌜ r ≡ planOf (now (policy .entry)) ⌝ }
 {
     let read = policy::read_policy(policy);
-    let labels = read.labels;
     let counts = read.counts;
     let over = read.over;
-    let rows = order::order_table(labels, read.pairs, over);
-    let parents = weights::choose_parents(labels, &counts, &rows);
-    let chosen = weights::chosen_weights(labels, &counts, &rows, &parents);
-    let sizes = weights::set_sizes(labels, &rows, &parents);
-    let total = weights::total_keys(labels, &counts, &sizes);
-    Plan {
-        refusal: read.refusal,
-        labels,
-        parents,
-        weights: chosen,
-        sizes,
-        total,
-    }
+    let rows = order::order_table(read.labels, read.pairs, over);
+    plan_labels(read.refusal, read.labels, &counts, &rows)
 }
 
 // The answer with a refusal.
@@ -132,6 +140,27 @@ fn refused(number: u8) -> Weighed
         refusal: number,
         total: 0,
         least: false,
+    }
+}
+
+// The total of a tree, and whether it is that of the chosen parents.
+fn weigh_tree(
+    labels: usize,
+    counts: &[u16; 64],
+    rows: &[[bool; 64]; 64],
+    offered: &[u8; 64],
+) -> Weighed
+    requires { ⌜ (labels ≤ 64) × Falls (atOrBelow (now rows)) × Rowed labels (now offered) ⌝ }
+    ensures { λ r. ⌜ r ≡ treeWeighed labels (entries (now (counts .entry))) (atOrBelow (now (rows .entry))) (entries (now (offered .entry))) ⌝ }
+{
+    let least = weights::choose(labels, counts, rows);
+    let planned = least.parents;
+    let fewest = total_of(labels, counts, rows, &planned);
+    let total = total_of(labels, counts, rows, offered);
+    Weighed {
+        refusal: 0,
+        total,
+        least: total == fewest,
     }
 }
 
@@ -152,12 +181,5 @@ pub fn weigh(policy: &[u8], tree: &[u8]) -> Weighed
         return refused(number);
     }
     let offered = read_parents(labels, tree);
-    let total = total_of(labels, &counts, &rows, &offered);
-    let chosen = weights::choose_parents(labels, &counts, &rows);
-    let fewest = total_of(labels, &counts, &rows, &chosen);
-    Weighed {
-        refusal: 0,
-        total,
-        least: total == fewest,
-    }
+    weigh_tree(labels, &counts, &rows, &offered)
 }

@@ -10,7 +10,6 @@ use Rattle.lists.proofs.Tables.{length-listed, getD-listed}
 use Rattle.policy.proofs.Passing.{labels-bound, pairs-bound, label-passed, over-passed}
 use Rattle.policy.specs.File.{placeOf, nameOf, countOf, pairAt}
 use Rattle.policy.specs.Rows.{LowerOf, NoneRefuses, Passes}
-use Rattle.lists.specs.Tables.{listed}
 use Rattle.policy.specs.Whole.{labelsOf, pairCount, Accepted, pairsOf, noPair}
 
 -- what holds of an accepted policy

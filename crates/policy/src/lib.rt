@@ -53,16 +53,16 @@ fn unnamed(kind: Kind) -> Record
 }
 
 // The first of `labels` labels that has the name, or none.
-pub fn find_name(policy: &[u8], labels: usize, name: &[u8; 8]) -> Found
+pub fn find_name(policy: &[u8], labels: usize, name: [u8; 8]) -> Found
     requires { ⌜ 12 * labels ≤ length (now policy) ⌝ }
-    ensures { λ r. ⌜ r ≡ labelNamed (now (policy .entry)) labels (now (name .entry)) ⌝ }
+    ensures { λ r. ⌜ r ≡ labelNamed (now (policy .entry)) labels name ⌝ }
 {
     let mut i = 0;
     let found = loop {
         if i == labels {
             break Found::Nothing;
         }
-        if format::stands(policy, 12 * i + 2, name) {
+        if format::same_name(format::read_name(policy, 12 * i + 2), name) {
             break Found::At(i);
         }
         i += 1;
@@ -82,7 +82,7 @@ fn read_label(policy: &[u8], labels: usize) -> Record
     if !format::well_formed(&name) {
         return unnamed(Kind::Refused(6));
     }
-    match find_name(policy, labels, &name) {
+    match find_name(policy, labels, name) {
         Found::At(_) => unnamed(Kind::Refused(7)),
         Found::Nothing => Record {
             name,
@@ -139,7 +139,7 @@ fn read_record(policy: &[u8], labels: usize, pairs: usize) -> Record
     if left == 1 {
         return unnamed(Kind::Refused(2));
     }
-    if format::stands(policy, at, &LB) {
+    if format::marked(policy, at, LB) {
         if left < 12 {
             return unnamed(Kind::Refused(3));
         }
@@ -148,7 +148,7 @@ fn read_record(policy: &[u8], labels: usize, pairs: usize) -> Record
         }
         return read_label(policy, labels);
     }
-    if format::stands(policy, at, &OV) {
+    if format::marked(policy, at, OV) {
         if left < 4 {
             return unnamed(Kind::Refused(3));
         }

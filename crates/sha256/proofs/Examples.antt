@@ -1,7 +1,6 @@
 -- A worked example: the hash of "abc" (FIPS 180-4, the example of a one-block message).
 use mathlib.Core.Path.{_≡_, refl}
-use mathlib.Core.List.{List, [], _∷_}
-use Prim.Native.Nat.{ℕ}
+use mathlib.Core.List.{[], _∷_}
 use Rattle.words.specs.Words.{rotr, bigSigma0, bigSigma1, smallSigma0, smallSigma1}
 use Rattle.compression.specs.Compression.{roundWords, initial, words, extended, schedule, roundOf, rounds, compressed}
 use Rattle.sha256.specs.Sha256.{wordBytes, lengthBlock, padding, block, chained, joined, digestFrom, hash}

@@ -1,6 +1,6 @@
 -- SHA-256 of a message of bytes (FIPS 180-4, sections 5.1.1, 5.2.1 and 6.2.2).
 use mathlib.Core.List.{List, [], _∷_, _++_}
-use Prim.Native.Nat.{ℕ, zero, suc, _+_, _-_, _*_, _/_, _%_, _^_}
+use Prim.Native.Nat.{ℕ, zero, suc, _-_, _*_, _/_, _%_, _^_}
 use lib.ListN.{length, getD, take, drop, replicate}
 use Rattle.compression.specs.Compression.{initial, compressed}
 

@@ -1,18 +1,18 @@
 -- What `plan_text` answers and leaves, from what stands in the buffer of its own.
-use Prim.Native.Nat.{ℕ, _≤_, _<_}
-use mathlib.Core.Bool.{Bool, true, false}
+use Prim.Native.Nat.{ℕ, _≤_}
+use mathlib.Core.Bool.{Bool, true, false, cond}
 use mathlib.Core.List.{List}
-use mathlib.Core.Path.{_≡_, refl}
+use mathlib.Core.Path.{_≡_, refl, ap₂}
 use native.Mathlib.Omega.{arith}
-use borrow.Author.Tests.{le-leb, lt-leb, leb-true}
+use borrow.Author.Tests.{le-leb, leb-true, leb-false}
 use lib.Dec.{leb}
-use lib.ListN.{length, take, drop, length-append, length-drop}
+use lib.ListN.{length, take, length-append, length-drop}
 use Rattle.lists.specs.Buffer.{pasted}
 use Rattle.planner.specs.Planned.{planOf}
 use Rattle.planner.specs.declared.Plan.{Plan}
 use Rattle.text.specs.Answer.{writtenOf, bufferAfter}
 use Rattle.text.specs.Listing.{listing, planText}
-use Rattle.text.specs.Put.{Put}
+use Rattle.text.specs.Put.{Put, Handed}
 use Rattle.text.specs.declared.Written.{Written}
 use Rattle.text.proofs.Plans.{text-suffices}
 use Rattle.text.proofs.Writes.{put-front}
@@ -29,26 +29,31 @@ module _ (file : List ℕ) {d e : List ℕ} {plan : Plan} {r : ℕ} (same : plan
   pub text-taken : take r e ≡ planText file
   text-taken = put-front text-put
 
+  -- its front of that length, handed out
+  pub text-handed : {out after : List ℕ} {w : Written} → Handed (take r e) out after w → Handed (planText file) out after w
+  text-handed h = rw text-taken at h
+
+abbrev answer : (refusal size : ℕ) → Written
+answer refusal size = record { refusal = refusal; length = size }
+
 module _ (file out : List ℕ) where
-  -- there is room for the text
-  module _ (room : length (planText file) ≤ length out) where
-    pub written-yes : (r : ℕ) → r ≡ length (planText file) → record { refusal = 0; length = r } ≡ writtenOf file (length out)
+  -- the text handed out: the answer, and the buffer after it
+  module _ {after : List ℕ} {w : Written} (h : Handed (planText file) out after w) where
+    pub handed-written : w ≡ writtenOf file (length out)
     unfolding writtenOf
-    written-yes r e = rw (le-leb (length (planText file)) (length out) room, e)
+    handed-written = go (leb (length (planText file)) (length out)) refl
+      where
+        go : (t : Bool) → leb (length (planText file)) (length out) ≡ t → w ≡ cond t (answer 0 (length (planText file))) (answer 16 0)
+        go true e = let r = h .room (leb-true (length (planText file)) (length out) e) in ap₂ answer (r .0) (r .1)
+        go false e = let r = h .none (leb-false (length (planText file)) (length out) e) in ap₂ answer (r .0) (r .1)
 
-    pub buffer-yes : pasted out 0 (planText file) ≡ bufferAfter file out
+    pub handed-left : after ≡ bufferAfter file out
     unfolding bufferAfter
-    buffer-yes = rw (le-leb (length (planText file)) (length out) room)
-
-  -- there is none
-  module _ (none : length out < length (planText file)) where
-    pub written-no : record { refusal = 16; length = 0 } ≡ writtenOf file (length out)
-    unfolding writtenOf
-    written-no = rw (lt-leb (length (planText file)) (length out) none)
-
-    pub buffer-no : out ≡ bufferAfter file out
-    unfolding bufferAfter
-    buffer-no = rw (lt-leb (length (planText file)) (length out) none)
+    handed-left = go (leb (length (planText file)) (length out)) refl
+      where
+        go : (t : Bool) → leb (length (planText file)) (length out) ≡ t → after ≡ cond t (pasted out 0 (planText file)) out
+        go true e = h .room (leb-true (length (planText file)) (length out) e) .2
+        go false e = h .none (leb-false (length (planText file)) (length out) e) .2
 
   front-length : length (planText file) ≤ length out → length (pasted out 0 (planText file)) ≡ length out
   unfolding pasted

@@ -11,6 +11,11 @@ use lib.Dec.{ltb}
 use lib.ListN.{length, getD}
 use Rattle.text.specs.Decimal.{digit, digitsBefore, decimal, valueBehind, valueOf, Decimal}
 
+-- 907 is printed as `907`
+pub decimal-907 : decimal 907 ≡ 57 ∷ 48 ∷ 55 ∷ []
+unfolding decimal digitsBefore
+decimal-907 = refl
+
 -- one turn of `digitsBefore`: x is its first digit, or its last digit goes before those behind
 module _ (x : ℕ) (behind : List ℕ) where
   abbrev rest : ℕ → List ℕ

@@ -6,9 +6,9 @@ use Rattle.planner.proofs.WorkedExamples.{plan-E}
 use Rattle.policy.proofs.Examples.{E}
 use Rattle.policy.specs.File.{nameOf, countOf}
 use Rattle.policy.specs.Whole.{scanned}
-use Rattle.planner.specs.Planned.{planOf}
+use Rattle.planner.specs.Planned.{planned, planOf}
 use Rattle.text.specs.Decimal.{digitsBefore, decimal}
-use Rattle.text.specs.Listing.{unpadded, parentName, line, lines, lastLine, refusedLine, listing, planText}
+use Rattle.text.specs.Listing.{unpadded, parentName, names, numbers, line, lines, worded, lastLine, refusedLine, listing, planText}
 
 -- SUITE - 2 1 2
 -- CURVES SUITE 3 2 3
@@ -24,10 +24,10 @@ listingE =
     ∷ 84 ∷ 79 ∷ 84 ∷ 65 ∷ 76 ∷ 32 ∷ 49 ∷ 55 ∷ 10 ∷ []
 
 pub text-E : planText E ≡ listingE
-unfolding planText listing lines line lastLine parentName unpadded nameOf countOf decimal digitsBefore
+unfolding planText listing lines line lastLine names numbers worded parentName unpadded nameOf countOf decimal digitsBefore
 text-E = rw plan-E
 
 -- REFUSED 1
 pub text-empty : planText [] ≡ 82 ∷ 69 ∷ 70 ∷ 85 ∷ 83 ∷ 69 ∷ 68 ∷ 32 ∷ 49 ∷ 10 ∷ []
-unfolding planText listing refusedLine decimal digitsBefore planOf scanned
+unfolding planText listing refusedLine worded decimal digitsBefore planned planOf scanned
 text-empty = refl

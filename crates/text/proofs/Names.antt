@@ -13,6 +13,11 @@ use lib.Seq.{drop-cons, drop-length, length-take-le}
 use Rattle.format.specs.Form.{Sign, letter, digit, NameForm}
 use Rattle.text.specs.Listing.{unpadded}
 
+-- `SUITE` of `SUITE   `
+pub unpadded-SUITE : unpadded (83 ∷ 85 ∷ 73 ∷ 84 ∷ 69 ∷ 32 ∷ 32 ∷ 32 ∷ []) ≡ 83 ∷ 85 ∷ 73 ∷ 84 ∷ 69 ∷ []
+unfolding unpadded
+unpadded-SUITE = refl
+
 -- it is a front of the name
 pub unpadded-front : (name : List ℕ) → unpadded name ≡ take (length (unpadded name)) name
 unfolding unpadded

@@ -1,6 +1,6 @@
 -- The parts of a listing, and their lengths.
 use Prim.Native.Nat.{ℕ, zero, suc, _+_, _≤_, _<_}
-use mathlib.Core.List.{List, _++_, append-assoc}
+use mathlib.Core.List.{List, _++_}
 use mathlib.Core.Logic.{⊎-elim}
 use mathlib.Core.Path.{_≡_}
 use native.Mathlib.Nat.{eq-or-lt-of-le, le-of-suc-le-suc}
@@ -10,13 +10,7 @@ use lib.ListN.{length, getD, length-append}
 use Rattle.policy.specs.File.{nameOf, countOf}
 use Rattle.planner.specs.declared.Plan.{Plan}
 use Rattle.text.specs.Decimal.{decimal}
-use Rattle.text.specs.Listing.{space, newline, dash, unpadded, parentName, line, lines, totalWord, refusedWord, lastLine, refusedLine, listing}
-use Rattle.text.specs.Put.{worded, names, numbers}
-
--- the parts of a line in groups: two fields, three fields with the space before each, the line feed
-regroup : (a sp b x y z nl : List ℕ)
-    → a ++ sp ++ b ++ sp ++ x ++ sp ++ y ++ sp ++ z ++ nl ≡ (a ++ sp ++ b) ++ (sp ++ x ++ (sp ++ y) ++ (sp ++ z)) ++ nl
-regroup a sp b x y z nl = simp append-assoc
+use Rattle.text.specs.Listing.{newline, dash, unpadded, parentName, names, numbers, line, lines, worded, totalWord, refusedWord, lastLine, refusedLine, listing}
 
 pub worded-length : (word : List ℕ) (x : ℕ) → length (worded word x) ≡ length word + suc (length (decimal x)) + 1
 unfolding worded
@@ -41,14 +35,10 @@ module _ (file : List ℕ) (plan : Plan) (m : ℕ) where
   unfolding names
   names-length = simp length-append
 
-  -- a line: its names, its numbers and a line feed
   module _ (count : ℕ) (e : count ≡ countOf file m) where
     pub line-parts : line file plan m ≡ names file plan m ++ numbers (getD (plan .weights) m 0) (getD (plan .sizes) m 0) count ++ newline
-    unfolding line names numbers
-    line-parts =
-        rw e
-        (regroup (unpadded (nameOf file m)) space (parentName file plan m) (decimal (getD (plan .weights) m 0)) (decimal (getD (plan .sizes) m 0))
-        (decimal (countOf file m)) newline)
+    unfolding line
+    line-parts = rw e
 
     pub line-length : length (line file plan m)
         ≡ length (names file plan m) + length (numbers (getD (plan .weights) m 0) (getD (plan .sizes) m 0) count) + 1
@@ -65,9 +55,9 @@ module _ (file : List ℕ) (plan : Plan) where
 
   -- the text of a refused policy and of an accepted one
   pub listing-refused : (plan .refusal ≡ 0 → ⊥) → listing file plan ≡ worded refusedWord (plan .refusal)
-  unfolding listing refusedLine worded
+  unfolding listing refusedLine
   listing-refused ne = rw (ne-eqb (plan .refusal) 0 ne)
 
   pub listing-accepted : plan .refusal ≡ 0 → listing file plan ≡ lines file plan (plan .labels) ++ worded totalWord (plan .total)
-  unfolding listing lastLine worded
+  unfolding listing lastLine
   listing-accepted e = rw (eq-eqb (plan .refusal) 0 e)

@@ -10,22 +10,22 @@ use Rattle.lists.proofs.Tables.{getD-filled}
 use Rattle.policy.proofs.Verdict.{bounds}
 use Rattle.policy.specs.File.{nameOf, countOf}
 use Rattle.policy.specs.Whole.{labelsOf}
+use Rattle.trees.specs.Weights.{plan as tree}
 use Rattle.weights.proofs.Reading.{plan-early}
-use Rattle.planner.specs.Planned.{testOf, planTree, planOf}
+use Rattle.planner.specs.Planned.{testOf, planned, planOf}
 use Rattle.planner.specs.declared.Plan.{Plan}
-use Rattle.text.specs.Decimal.{decimal}
-use Rattle.text.specs.Listing.{newline, dash, unpadded, parentName, line, lines, lastLine, refusedLine, listing, planText}
+use Rattle.text.specs.Listing.{dash, unpadded, parentName, line, lines, totalWord, refusedWord, lastLine, refusedLine, listing, planText}
 use Rattle.text.specs.Put.{Printable}
 use Rattle.text.proofs.Names.{unpadded-short}
 use Rattle.text.proofs.Digits.{decimal-short}
-use Rattle.text.proofs.Parts.{names-length, numbers-length, line-length}
+use Rattle.text.proofs.Parts.{worded-length, names-length, numbers-length, line-length}
 
 pub plan-printable : (file : List ℕ) → Printable file (planOf file)
-unfolding planOf planTree
+unfolding planOf planned
 plan-printable file = record {
   few = bounds file .0;
   within = omega (arith, bounds file);
-  parents = λ m h. omega (arith, getD-filled (planTree file) 64 0 (labelsOf file) m 0 h, plan-early (labelsOf file) (countOf file) (testOf file) m);
+  parents = λ m h. omega (arith, getD-filled (tree (labelsOf file) (countOf file) (testOf file)) 64 0 (labelsOf file) m 0 h, plan-early (labelsOf file) (countOf file) (testOf file) m);
 }
 
 -- a name has at most 8 bytes
@@ -75,10 +75,10 @@ module _ (file : List ℕ) (plan : Plan) where
             arith,
             length-append (lines file plan (plan .labels)) (lastLine plan),
             lines-short (plan .labels),
-            length-append (decimal (plan .total)) newline,
+            worded-length totalWord (plan .total),
             decimal-short (plan .total),
           )
-      go false = omega (arith, length-append (decimal (plan .refusal)) newline, decimal-short (plan .refusal))
+      go false = omega (arith, worded-length refusedWord (plan .refusal), decimal-short (plan .refusal))
 
 -- 64 lines of 51 bytes and a last line of 17: a buffer of 4,096 bytes has room for every text
 pub text-suffices : (file : List ℕ) → length (planText file) ≤ 3281

@@ -1,25 +1,33 @@
 -- Laws of writes into a buffer.
 use Prim.Native.Nat.{ℕ, _+_, _≤_}
 use mathlib.Core.List.{List, [], _++_}
-use mathlib.Core.Path.{_≡_, refl, _∙_}
+use mathlib.Core.Path.{_≡_, refl, ap, _∙_}
 use native.Mathlib.Omega.{arith}
-use lib.ListN.{length, take, drop, length-append}
-use lib.Seq.{take-at}
+use lib.ListN.{length, take, drop, length-append, length-drop}
+use lib.Seq.{take-at, length-take-le}
 use Rattle.lists.proofs.Pasted.{pasted-adjacent}
 use Rattle.lists.specs.Buffer.{pasted}
 use Rattle.text.specs.Put.{Put}
 
+-- a write leaves the buffer's length
+pub put-length : {d e s : List ℕ} {at r : ℕ} → Put d e at s r → length e ≡ length d
+unfolding pasted
+put-length {d} {e} {s} {at} {r} p =
+    ap length (p .written) ∙ simp (length-append, length-drop) (omega (arith, length-take-le at d (omega (arith, p .fits)), p .fits))
+
 -- two writes, the second straight behind the first
-pub put-next : {d e f s t : List ℕ} {at q r : ℕ} → Put d e at s q → Put e f q t r → q + length t ≤ length d → Put d f at (s ++ t) r
-put-next {d} {e} {f} {s} {t} {at} {q} {r} a b h = record {
-  behind = omega (arith, length-append s t, a .behind, b .behind);
-  written = b .written ∙ rw (a .behind, a .written) (pasted-adjacent d at s t (omega (arith, a .behind)));
-}
+pub put-next : {d e f s t : List ℕ} {at q r : ℕ} → Put d e at s q → Put e f q t r → Put d f at (s ++ t) r
+put-next {d} {e} {f} {s} {t} {at} {q} {r} a b =
+    let room : at + length s + length t ≤ length d = omega (arith, a .behind, b .fits, put-length a) in record {
+      fits = omega (arith, length-append s t);
+      behind = omega (arith, length-append s t, a .behind, b .behind);
+      written = b .written ∙ rw (a .behind, a .written) (pasted-adjacent d at s t room);
+    }
 
 -- nothing written at the start
 pub put-none : (d : List ℕ) → Put d d 0 [] 0
 unfolding pasted
-put-none d = record { behind = refl; written = refl }
+put-none d = record { fits = omega arith; behind = refl; written = refl }
 
 -- what is written at the start stands there
 pub put-front : {d e s : List ℕ} {r : ℕ} → Put d e 0 s r → take r e ≡ s

@@ -37,28 +37,34 @@ unpadded (b ∷ bs) = cond (eqb b 32) [] (b ∷ unpadded bs)
 unfoldable pub parentName : List ℕ → Plan → ℕ → List ℕ
 parentName file plan m = cond (eqb m top) dash (unpadded (nameOf file (getD (plan .parents) m 0)))
 
+-- the names of a label and its parent
+unfoldable pub names : List ℕ → Plan → ℕ → List ℕ
+names file plan m = unpadded (nameOf file m) ++ space ++ parentName file plan m
+
+-- three numbers, each behind a space
+unfoldable pub numbers : (weight size count : ℕ) → List ℕ
+numbers weight size count = (space ++ decimal weight) ++ (space ++ decimal size) ++ (space ++ decimal count)
+
 -- "one line a label: name without padding, parent's name .., weight (for the top its accounts), keys held by one account, accounts"
 unfoldable pub line : List ℕ → Plan → ℕ → List ℕ
-line file plan m =
-    unpadded (nameOf file m)
-    ++ space ++ parentName file plan m
-    ++ space ++ decimal (getD (plan .weights) m 0)
-    ++ space ++ decimal (getD (plan .sizes) m 0)
-    ++ space ++ decimal (countOf file m)
-    ++ newline
+line file plan m = names file plan m ++ numbers (getD (plan .weights) m 0) (getD (plan .sizes) m 0) (countOf file m) ++ newline
 
 -- the lines of the first n labels
 unfoldable pub lines : List ℕ → Plan → ℕ → List ℕ
 lines file plan zero = []
 lines file plan (suc m) = lines file plan m ++ line file plan m
 
+-- a line of a word and a number
+unfoldable pub worded : List ℕ → ℕ → List ℕ
+worded word x = word ++ (space ++ decimal x) ++ newline
+
 -- "Last stands `TOTAL` and the total."
 unfoldable pub lastLine : Plan → List ℕ
-lastLine plan = totalWord ++ space ++ decimal (plan .total) ++ newline
+lastLine plan = worded totalWord (plan .total)
 
 -- "A refused policy prints `REFUSED`, a space and the number."
 unfoldable pub refusedLine : Plan → List ℕ
-refusedLine plan = refusedWord ++ space ++ decimal (plan .refusal) ++ newline
+refusedLine plan = worded refusedWord (plan .refusal)
 
 -- the text of a file and its plan
 unfoldable pub listing : List ℕ → Plan → List ℕ

@@ -1,33 +1,25 @@
--- What the functions that write into a buffer promise and what they ask of a plan, and the parts that they write.
+-- What the functions that write into a buffer promise, and what they ask of a plan.
 use Prim.Native.Nat.{ℕ, _+_, _*_, _≤_, _<_}
-use mathlib.Core.List.{List, _++_}
+use mathlib.Core.List.{List}
 use mathlib.Core.Path.{_≡_}
 use lib.ListN.{length, getD}
 use Rattle.lists.specs.Buffer.{pasted}
-use Rattle.policy.specs.File.{nameOf}
 use Rattle.planner.specs.declared.Plan.{Plan}
-use Rattle.text.specs.Decimal.{decimal}
-use Rattle.text.specs.Listing.{space, newline, unpadded, parentName}
+use Rattle.text.specs.declared.Written.{Written}
 
--- s is written over the buffer's bytes from place at on, and r is the place behind it
+-- s is written over the buffer's bytes from place at on, where it has room, and r is the place behind it
 pub record Put (before after : List ℕ) (at : ℕ) (s : List ℕ) (r : ℕ) : Type 0 where
+  pub fits : at + length s ≤ length before
   pub behind : r ≡ at + length s
   pub written : after ≡ pasted before at s
+
+-- s is written from the buffer's start if it has room for it, else the buffer stays; w is what is answered
+pub record Handed (s before after : List ℕ) (w : Written) : Type 0 where
+  pub room : length s ≤ length before → (w .refusal ≡ 0) × (w .length ≡ length s) × (after ≡ pasted before 0 s)
+  pub none : length before < length s → (w .refusal ≡ 16) × (w .length ≡ 0) × (after ≡ before)
 
 -- the plan's labels lie within the file, and each of their parents is one of them
 pub record Printable (file : List ℕ) (plan : Plan) : Type 0 where
   pub few : plan .labels ≤ 64
   pub within : 12 * plan .labels ≤ length file
   pub parents : (m : ℕ) → m < plan .labels → getD (plan .parents) m 0 < plan .labels
-
--- a line of a word and a number
-unfoldable pub worded : List ℕ → ℕ → List ℕ
-worded word x = word ++ (space ++ decimal x) ++ newline
-
--- a label's name and its parent's
-unfoldable pub names : List ℕ → Plan → ℕ → List ℕ
-names file plan m = unpadded (nameOf file m) ++ space ++ parentName file plan m
-
--- a label's weight, keys held by one account and accounts, each behind a space
-unfoldable pub numbers : (weight size count : ℕ) → List ℕ
-numbers weight size count = space ++ decimal weight ++ (space ++ decimal size) ++ (space ++ decimal count)

@@ -6,9 +6,9 @@ ghost use mathlib.Core.List.{_++_};
 ghost use lib.ListN.{length};
 ghost use Rattle.policy.specs.File.{nameOf};
 ghost use Rattle.text.specs.Decimal.{decimal};
-ghost use Rattle.text.specs.Listing.{space, unpadded, parentName, line, lines, listing};
+ghost use Rattle.text.specs.Listing.{space, unpadded, parentName, names, numbers, line, lines, worded, listing};
 ghost use Rattle.text.specs.Answer.{writtenOf, bufferAfter};
-ghost use Rattle.text.specs.Put.{Put, Printable, worded, names, numbers};
+ghost use Rattle.text.specs.Put.{Put, Handed, Printable};
 
 // The length of the text, or 16 and 0 when the buffer has no room for it.
 #[repr(C)]
@@ -159,7 +159,24 @@ fn write_text(policy: &[u8], plan: Plan, out: &mut [u8]) -> usize
     put_worded(out, behind, b"TOTAL", plan.total)
 }
 
-// Writes the text of a policy file from the buffer's start on. A buffer that has no room for it stays as it was.
+// Writes a text from the buffer's start on. A buffer that has no room for it stays as it was.
+fn hand_out(text: &[u8], out: &mut [u8]) -> Written
+    ensures { λ r. ⌜ Handed (now (text .entry)) (now (out .entry)) (now (out .exit)) r ⌝ }
+{
+    if out.len() < text.len() {
+        return Written {
+            refusal: 16,
+            length: 0,
+        };
+    }
+    put_bytes(out, 0, text);
+    Written {
+        refusal: 0,
+        length: text.len(),
+    }
+}
+
+// Writes the text of a policy file from the buffer's start on, or nothing if it has no room for it.
 // No text has more than 3,281 bytes.
 pub fn plan_text(policy: &[u8], out: &mut [u8]) -> Written
     ensures { λ r. ⌜ (r ≡ writtenOf (now (policy .entry)) (length (now (out .entry)))) × (now (out .exit) ≡ bufferAfter (now (policy .entry)) (now (out .entry))) ⌝ }
@@ -167,12 +184,5 @@ pub fn plan_text(policy: &[u8], out: &mut [u8]) -> Written
     let plan = planner::plan_policy(policy);
     let mut text = [0u8; 4096];
     let length = write_text(policy, plan, &mut text);
-    if out.len() < length {
-        return Written {
-            refusal: 16,
-            length: 0,
-        };
-    }
-    put_bytes(out, 0, &text[..length]);
-    Written { refusal: 0, length }
+    hand_out(&text[..length], out)
 }

@@ -9,6 +9,5 @@ pub mod Fewest
 pub mod Demand3
 pub mod Published
 pub mod Examples
-pub mod Loops
 pub mod Tables
 pub mod Widths

@@ -86,11 +86,6 @@ sum-upto f k (suc n) l = go (sum-upto f k n) (le-suc-iff .0 l)
 
 -- ---- conditional sums
 
--- one turn of the loop, by the test's answer
-pub sumWhere-yes : (t : ℕ → Bool) (f : ℕ → ℕ) (n : ℕ) → t n ≡ true → sumWhere t f (suc n) ≡ sumWhere t f n + f n
-unfolding sumWhere
-sumWhere-yes t f n e = rw e
-
 pub sumWhere-no : (t : ℕ → Bool) (f : ℕ → ℕ) (n : ℕ) → t n ≡ false → sumWhere t f (suc n) ≡ sumWhere t f n
 unfolding sumWhere
 sumWhere-no t f n e = rw e (omega arith)
@@ -136,9 +131,6 @@ sumWhere-tight t f g n h e i l y =
 
 pub sumWhere-le : (t : ℕ → Bool) (f : ℕ → ℕ) (n : ℕ) → sumWhere t f n ≤ sum f n
 sumWhere-le t f n = rw (sumWhere-sum t f n) (sum-mono (λ i. cond (t i) (f i) 0) f n (λ i l. cond-le (t i) (f i)))
-
-pub sumWhere-upto : (t : ℕ → Bool) (f : ℕ → ℕ) (k n : ℕ) → k ≤ n → sumWhere t f k ≤ sumWhere t f n
-sumWhere-upto t f k n l = rw (sumWhere-sum t f k, sumWhere-sum t f n) (sum-upto (λ i. cond (t i) (f i) 0) k n l)
 
 -- the term at one place beside the terms at all others
 pub sum-apart : (f : ℕ → ℕ) (k n : ℕ) → k < n → sum f n ≡ f k + sumWhere (λ i. not (eqb i k)) f n

@@ -1,7 +1,7 @@
 -- Weights, smallest sets, totals, the plan and the answers depend on counts, order and parents of labels below n alone: what a table gives
 -- past its labels does not matter.
 use Prim.Native.Nat.{ℕ, zero, suc, _*_, _≤_, _<_}
-use mathlib.Core.Path.{_≡_, refl, ap, ap₂, sym, _∙_, subst}
+use mathlib.Core.Path.{_≡_, refl, ap₂}
 use mathlib.Core.Logic.{_⊎_, inl, inr, _≢_}
 use mathlib.Core.Bool.{Bool, not, _&&_, _||_}
 use mathlib.Core.List.{List}
@@ -9,9 +9,7 @@ use native.Mathlib.Omega.{arith}
 use lib.ListN.{length}
 use lib.Dec.{eqb}
 use borrow.Author.Tests.{eq-eqb, ne-eqb}
-use Rattle.trees.specs.Sums.{sum}
-use Rattle.trees.specs.Trees.{top, Above, Tree, keys, Scheme, Fewest}
-use Rattle.trees.specs.Order.{Order}
+use Rattle.trees.specs.Trees.{top}
 use Rattle.trees.specs.Weights.{weighed, weight, inSmallest, smallest, labelKeys, total, best, leastParent, plan, least}
 use Rattle.trees.proofs.Sums.{sum-cong, sumWhere-cong}
 use Rattle.trees.proofs.Select.{select-cong}
@@ -29,21 +27,6 @@ SameTests n le le′ = (m l : ℕ) → m < n → l < n → le m l ≡ le′ m l
 pub record SameParents (n : ℕ) (parent parent′ : ℕ → ℕ) : Type 0 where
   pub labels : (m : ℕ) → m < n → m ≢ top → parent m < n
   pub agree : (m : ℕ) → m < n → m ≢ top → parent m ≡ parent′ m
-
--- ---- the order and the trees
-
-pub order-agree : {n : ℕ} {R : ℕ → ℕ → Type 0} {le le′ : ℕ → ℕ → Bool} → SameTests n le le′ → Order n R le → Order n R le′
-order-agree h O = record {
-  some = O .some;
-  tested = λ m l hm hl. (λ e. O .tested m l hm hl .0 (h m l hm hl ∙ e), λ r. sym (h m l hm hl) ∙ O .tested m l hm hl .1 r);
-  same = O .same;
-  chain = O .chain;
-  upper = O .upper;
-  under = O .under;
-}
-
-pub tree-agree : {n : ℕ} {R : ℕ → ℕ → Type 0} {parent parent′ : ℕ → ℕ} → SameParents n parent parent′ → Tree n R parent → Tree n R parent′
-tree-agree {n} {R} P T = record { hangs = λ m hm ne. subst (λ (p : ℕ). Above n R p m) (P .agree m hm ne) (T .hangs m hm ne) }
 
 -- ---- weights and the plan
 
@@ -100,20 +83,3 @@ module _ {n : ℕ} {count count′ : ℕ → ℕ} {le le′ : ℕ → ℕ → Bo
   pub least-agree : {parent parent′ : ℕ → ℕ} → SameParents n parent parent′ → least n count le parent ≡ least n count′ le′ parent′
   unfolding least
   least-agree P = ap₂ eqb (total-agree P) (total-agree plan-agree)
-
--- ---- the fewest keys
-
-module _ {n : ℕ} {count count′ : ℕ → ℕ} {R : ℕ → ℕ → Type 0} (c : SameCounts n count count′) where
-  pub scheme-agree : {k : ℕ} → Scheme n count R k → Scheme n count′ R k
-  unfolding keys
-  scheme-agree S = record {
-    parent = S .parent;
-    sets = S .sets;
-    tree = S .tree;
-    assigned = record { sufficient = λ l a hl ha. S .assigned .sufficient l a hl (subst (λ (j : ℕ). a < j) (sym (c l hl)) ha) };
-    issues = sum-cong (λ l. sum (λ a. length (S .sets l a)) (count′ l)) (λ l. sum (λ a. length (S .sets l a)) (count l)) n (λ l hl. ap (sum (λ a. length (S .sets l a))) (sym (c l hl)))
-        ∙ S .issues;
-  }
-
-pub fewest-agree : {n : ℕ} {count count′ : ℕ → ℕ} {R : ℕ → ℕ → Type 0} {k : ℕ} → SameCounts n count count′ → Fewest n count R k → Fewest n count′ R k
-fewest-agree c F = record { reached = scheme-agree c (F .reached); fewest = λ j S. F .fewest j (scheme-agree (λ l hl. sym (c l hl)) S) }

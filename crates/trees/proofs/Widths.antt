@@ -8,12 +8,9 @@ use lib.ListN.{length}
 use Rattle.trees.specs.Sums.{sum, sumWhere}
 use Rattle.trees.specs.Weights.{weighed, weight, inSmallest, smallest, labelKeys, total}
 use Rattle.trees.proofs.Sums.{sum-bound, sum-upto, sumWhere-le}
-use Rattle.trees.proofs.Select.{select-length, select-short}
+use Rattle.trees.proofs.Select.{select-short}
 
 module _ (n : ℕ) (few : n ≤ 64) (le : ℕ → ℕ → Bool) where
-  pub size-upto : (parent : ℕ → ℕ) (l k : ℕ) → k ≤ n → sumWhere (inSmallest le parent l) (λ m. 1) k ≤ k
-  size-upto parent l k h = rw (← (select-length (inSmallest le parent l) k)) (select-short (inSmallest le parent l) k)
-
   pub size-bound : (parent : ℕ → ℕ) (l : ℕ) → length (smallest n le parent l) ≤ 64
   unfolding smallest
   size-bound parent l = omega (arith, select-short (inSmallest le parent l) n)
@@ -39,7 +36,3 @@ module _ (n : ℕ) (few : n ≤ 64) (le : ℕ → ℕ → Bool) where
         let h : total n count le parent ≤ 64 * (65_535 * 64) =
         le-trans (sum-bound (labelKeys n count le parent) (65_535 * 64) n (labelKeys-bound parent)) (mul-le-mul few (le-refl (65_535 * 64))) in
         omega arith
-
-    pub total-upto : (parent : ℕ → ℕ) (k : ℕ) → k ≤ n → sum (labelKeys n count le parent) k < 2 ^ 28
-    unfolding total
-    total-upto parent k h = omega (arith, sum-upto (labelKeys n count le parent) k n h, total-bound parent)

@@ -10,7 +10,7 @@ use Rattle.trees.specs.Trees.{top}
 use Rattle.trees.specs.Weights.{weight, labelKeys, total, plan}
 use Rattle.trees.proofs.Order.{is-top}
 use Rattle.trees.proofs.Sums.{sum-cong}
-use Rattle.trees.proofs.Tables.{SameCounts, SameTests, SameParents, weight-agree, leastParent-agree, smallest-agree, total-agree}
+use Rattle.trees.proofs.Tables.{SameCounts, SameTests, SameParents, weight-agree, smallest-agree, total-agree}
 use Rattle.weights.specs.Tables.{entries, parentTable, heldWeight, weightTable, setSize, sizeTable, accountKeys, keyTotal}
 use Rattle.weights.proofs.Reading.{parent-plan, heldWeight-top, heldWeight-under, entries-size}
 
@@ -23,10 +23,6 @@ unfolding keyTotal accountKeys
 keyTotal-agree {n} {count} {count′} {size} {size′} c s = sum-cong (λ l. count l * size l) (λ l. count′ l * size′ l) n (λ l h. ap₂ _*_ (c l h) (s l h))
 
 module _ {n : ℕ} {count count′ : ℕ → ℕ} {le le′ : ℕ → ℕ → Bool} (c : SameCounts n count count′) (h : SameTests n le le′) where
-  pub parentTable-agree : parentTable n count le ≡ parentTable n count′ le′
-  unfolding parentTable plan
-  parentTable-agree = filled-same 64 0 (plan n count le) (plan n count′ le′) n (leastParent-agree c h)
-
   module _ {parent parent′ : ℕ → ℕ} (P : SameParents n parent parent′) where
     pub heldWeight-agree : (m : ℕ) → m < n → heldWeight n count le parent m ≡ heldWeight n count′ le′ parent′ m
     heldWeight-agree m hm = go (is-top m)

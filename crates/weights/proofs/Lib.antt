@@ -2,6 +2,7 @@ pub mod Examples
 pub mod Turns
 pub mod Reading
 pub mod Agree
+pub mod Choices
 pub mod Short
 pub mod Above
 pub mod Sizes

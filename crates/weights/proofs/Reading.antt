@@ -4,15 +4,14 @@ use mathlib.Core.Bool.{Bool}
 use mathlib.Core.Logic.{_≢_}
 use mathlib.Core.Path.{_≡_, refl}
 use native.Mathlib.Omega.{arith}
-use lib.ListN.{length}
 use borrow.Author.Tests.{eq-eqb, ne-eqb}
 use Rattle.lists.specs.Tables.{filled}
-use Rattle.lists.proofs.Tables.{getD-filled, getD-past, length-filled}
+use Rattle.lists.proofs.Tables.{getD-filled, getD-past}
 use Rattle.trees.specs.Trees.{top}
 use Rattle.trees.specs.Weights.{weight, leastParent, plan}
 use Rattle.trees.proofs.Tables.{SameParents}
 use Rattle.trees.proofs.Ties.{best-early}
-use Rattle.weights.specs.Tables.{entries, parentTable, heldWeight, weightTable, setSize, sizeTable, Rowed}
+use Rattle.weights.specs.Tables.{entries, parentTable, heldWeight, weightTable, setSize, sizeTable}
 
 -- any table of 64 entries that is filled from the front
 module _ (f : ℕ → ℕ) (n m : ℕ) where
@@ -28,11 +27,6 @@ unfolding plan leastParent
 plan-early n count le m = best-early n count le m m
 
 module _ (n : ℕ) (count : ℕ → ℕ) (le : ℕ → ℕ → Bool) where
-  -- the table of parents
-  pub parent-length : n ≤ 64 → length (parentTable n count le) ≡ 64
-  unfolding parentTable
-  parent-length h = length-filled (plan n count le) 64 0 n h
-
   pub entries-parent : (m : ℕ) → m < n → entries (parentTable n count le) m ≡ plan n count le m
   unfolding parentTable
   entries-parent m h = entries-filled (plan n count le) n m h
@@ -40,9 +34,6 @@ module _ (n : ℕ) (count : ℕ → ℕ) (le : ℕ → ℕ → Bool) where
   pub entries-parent-past : (m : ℕ) → n ≤ m → entries (parentTable n count le) m ≡ 0
   unfolding parentTable
   entries-parent-past m h = entries-past (plan n count le) n m h
-
-  pub parent-rowed : n ≤ 64 → Rowed n (parentTable n count le)
-  parent-rowed h m hm = omega (arith, entries-parent m hm, plan-early n count le m)
 
   pub parent-plan : SameParents n (entries (parentTable n count le)) (plan n count le)
   parent-plan = record {
@@ -60,10 +51,6 @@ module _ (n : ℕ) (count : ℕ → ℕ) (le : ℕ → ℕ → Bool) where
     unfolding heldWeight
     heldWeight-under m ne = rw (ne-eqb m top ne) refl
 
-    pub weight-length : n ≤ 64 → length (weightTable n count le parent) ≡ 64
-    unfolding weightTable
-    weight-length h = length-filled (heldWeight n count le parent) 64 0 n h
-
     pub entries-weight : (m : ℕ) → m < n → entries (weightTable n count le parent) m ≡ heldWeight n count le parent m
     unfolding weightTable
     entries-weight m h = entries-filled (heldWeight n count le parent) n m h
@@ -74,10 +61,6 @@ module _ (n : ℕ) (count : ℕ → ℕ) (le : ℕ → ℕ → Bool) where
 
 -- the table of sizes
 module _ (n : ℕ) (le : ℕ → ℕ → Bool) (parent : ℕ → ℕ) where
-  pub size-length : n ≤ 64 → length (sizeTable n le parent) ≡ 64
-  unfolding sizeTable
-  size-length h = length-filled (setSize n le parent) 64 0 n h
-
   pub entries-size : (l : ℕ) → l < n → entries (sizeTable n le parent) l ≡ setSize n le parent l
   unfolding sizeTable
   entries-size l h = entries-filled (setSize n le parent) n l h

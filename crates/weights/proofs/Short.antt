@@ -6,7 +6,6 @@ use native.Mathlib.Decide.{decLe}
 use native.Mathlib.Omega.{arith}
 use Rattle.trees.specs.Sums.{sumWhere}
 use Rattle.trees.specs.Weights.{weighed, weight, best, leastParent}
-use Rattle.trees.proofs.Loops.{weighed-not-above}
 use Rattle.trees.proofs.Sums.{sumWhere-no}
 use Rattle.weights.specs.Tables.{Falls}
 
@@ -22,7 +21,8 @@ sumWhere-past t f k (suc n) h none = go (decLe k n) (λ l. sumWhere-past t f k n
 module _ (count : ℕ → ℕ) (le : ℕ → ℕ → Bool) (falls : Falls le) (m : ℕ) where
   -- no label past m is weighed
   past : (p l : ℕ) → suc m ≤ l → weighed le p m l ≡ false
-  past p l h = weighed-not-above le p m l (go (le m l) refl)
+  unfolding weighed
+  past p l h = rw (go (le m l) refl)
     where
       go : (b : Bool) → le m l ≡ b → b ≡ false
       go true e = absurd (omega (arith, falls m l e))

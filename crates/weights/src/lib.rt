@@ -3,8 +3,21 @@ ghost use Prim.Native.Nat.{_+_, _≤_, _<_};
 ghost use mathlib.Core.Bool.{cond, not};
 ghost use mathlib.Core.Path.{_≡_};
 ghost use Rattle.order.specs.Table.{atOrBelow};
-ghost use Rattle.trees.specs.Weights.{takes, leastParent, inSmallest};
-ghost use Rattle.weights.specs.Tables.{entries, Rowed, Falls, Small, accountsAbove, aboveTable, weightFrom, parentTable, heldWeight, weightTable, sizesBelow, sizeTable, keyTotal};
+ghost use Rattle.trees.specs.Weights.{takes, inSmallest};
+ghost use Rattle.weights.specs.Tables.{entries, Rowed, Falls, Small, accountsAbove, aboveTable, weightFrom, sizesBelow, sizeTable, keyTotal};
+ghost use Rattle.weights.specs.Choices.{choiceOf, chosenOf};
+
+// A label's parent and the parent's weight; for the top itself and its accounts.
+pub struct Choice {
+    pub parent: usize,
+    pub weight: u32,
+}
+
+// The choices of all labels. Entries past the labels are 0.
+pub struct Chosen {
+    pub parents: [u8; 64],
+    pub weights: [u32; 64],
+}
 
 // A label's number as an index.
 fn wide(x: u8) -> usize
@@ -79,12 +92,15 @@ fn takes(later: u32, sofar: u32) -> bool
 }
 
 // The parent of least weight for label `m`, gone through upwards from the top.
-fn least_parent(labels: usize, counts: &[u16; 64], rows: &[[bool; 64]; 64], m: usize) -> usize
+fn least_parent(labels: usize, counts: &[u16; 64], rows: &[[bool; 64]; 64], m: usize) -> Choice
     requires { ⌜ (labels ≤ 64) × (m < 64) ⌝ }
-    ensures { λ r. ⌜ (r ≡ leastParent labels (entries (now (counts .entry))) (atOrBelow (now (rows .entry))) m) × (r ≤ m) ⌝ }
+    ensures { λ r. ⌜ (r ≡ choiceOf labels (entries (now (counts .entry))) (atOrBelow (now (rows .entry))) m) × (r .parent ≤ m) ⌝ }
 {
     if m == 0 {
-        return 0;
+        return Choice {
+            parent: 0,
+            weight: accounts(counts[0]),
+        };
     }
     let above = accounts_above(labels, counts, rows, m);
     let mut best = 0;
@@ -101,7 +117,10 @@ fn least_parent(labels: usize, counts: &[u16; 64], rows: &[[bool; 64]; 64], m: u
             }
         }
     }
-    best
+    Choice {
+        parent: best,
+        weight: least,
+    }
 }
 
 // A number past label `m`: up to it all labels that can be above `m` are counted, eight at a time.
@@ -112,56 +131,21 @@ fn past(m: usize) -> usize
     (m / 8 + 1) * 8
 }
 
-// For each label a parent of least weight.
-pub fn choose_parents(labels: usize, counts: &[u16; 64], rows: &[[bool; 64]; 64]) -> [u8; 64]
+// For each label a parent of least weight, with that weight.
+pub fn choose(labels: usize, counts: &[u16; 64], rows: &[[bool; 64]; 64]) -> Chosen
     requires { ⌜ (labels ≤ 64) × Falls (atOrBelow (now rows)) ⌝ }
-    ensures { λ r. ⌜ r ≡ parentTable labels (entries (now (counts .entry))) (atOrBelow (now (rows .entry))) ⌝ }
+    ensures { λ r. ⌜ r ≡ chosenOf labels (entries (now (counts .entry))) (atOrBelow (now (rows .entry))) ⌝ }
 {
     let mut parents = [0u8; 64];
-    let mut m = 0;
-    while m < labels {
-        parents[m] = least_parent(past(m), counts, rows, m) as u8;
-        m += 1;
-    }
-    parents
-}
-
-// The weight of a label's parent; for the top its accounts.
-fn held_weight(
-    labels: usize,
-    counts: &[u16; 64],
-    rows: &[[bool; 64]; 64],
-    parents: &[u8; 64],
-    m: usize,
-) -> u32
-    requires { ⌜ (labels ≤ 64) × (m < labels) × Rowed labels (now parents) ⌝ }
-    ensures { λ r. ⌜ r ≡ heldWeight labels (entries (now (counts .entry))) (atOrBelow (now (rows .entry))) (entries (now (parents .entry))) m ⌝ }
-{
-    if m == 0 {
-        return accounts(counts[0]);
-    }
-    let parent = wide(parents[m]);
-    let above = accounts_above(labels, counts, rows, m);
-    weight(labels, &above, rows, parent)
-}
-
-// The weight of each label's parent; for the top its accounts.
-pub fn chosen_weights(
-    labels: usize,
-    counts: &[u16; 64],
-    rows: &[[bool; 64]; 64],
-    parents: &[u8; 64],
-) -> [u32; 64]
-    requires { ⌜ (labels ≤ 64) × Rowed labels (now parents) ⌝ }
-    ensures { λ r. ⌜ r ≡ weightTable labels (entries (now (counts .entry))) (atOrBelow (now (rows .entry))) (entries (now (parents .entry))) ⌝ }
-{
     let mut weights = [0u32; 64];
     let mut m = 0;
     while m < labels {
-        weights[m] = held_weight(labels, counts, rows, parents, m);
+        let choice = least_parent(past(m), counts, rows, m);
+        parents[m] = choice.parent as u8;
+        weights[m] = choice.weight;
         m += 1;
     }
-    weights
+    Chosen { parents, weights }
 }
 
 // Whether label `m` is in the smallest set of label `l`: at or below it, and the top or under a parent that is not.

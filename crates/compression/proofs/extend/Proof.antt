@@ -1,7 +1,7 @@
 -- `compression::extend` meets its contract. The invariant: the words of the schedule up to `t` are stored.
 use mathlib.Core.Path.{sym, _≡_}
 use mathlib.Core.List.{_++_}
-use Prim.Native.Nat.{_≤_, _-_, _+_}
+use Prim.Native.Nat.{_≤_, _-_}
 use native.Mathlib.Omega.{arith}
 use lib.ListN.{take-append-drop, take, drop}
 use borrow.Author.Needs.{needs}

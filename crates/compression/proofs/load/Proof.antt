@@ -1,7 +1,7 @@
 -- `compression::load` meets its contract. The invariant: the words of the block up to `t` are stored, the rest of `w` is as it was.
 use mathlib.Core.Path.{refl, _≡_}
 use mathlib.Core.List.{_++_}
-use Prim.Native.Nat.{_≤_, _-_, _+_}
+use Prim.Native.Nat.{_≤_, _-_}
 use native.Mathlib.Omega.{arith}
 use lib.ListN.{drop}
 use borrow.Author.Needs.{needs}

@@ -1,6 +1,5 @@
 -- `exports::yendlowa_order` meets its contract: the answer is the policy's, and the rows are written when none of its checks refuses it.
 use mathlib.Core.Path.{_≡_, ap, sym, _∙_}
-use Prim.Native.Nat.{ℕ}
 use borrow.Author.Needs.{needs}
 use borrow.Author.Tests.{eq-eqb, ne-eqb}
 use denote.Ref.{now}

@@ -1,5 +1,6 @@
 -- `format::read_number` meets its contract: two bytes make a number below 65,536.
 use Prim.Native.Nat.{_+_}
+use mathlib.Core.Path.{refl}
 use native.Mathlib.Omega.{arith}
 use borrow.Author.Needs.{needs}
 use Rattle.format.proofs.read_number.Statement.{statement}
@@ -29,7 +30,7 @@ add-result-2 c =
     omega (arith, c .shared-slice-known2 .given at, c .shared-slice-known2 .given (at + 1))
 
 returns : tie.Need-returns
-returns c = search needs
+returns c = refl
 
 pub read-number-spec : {M : Type 1} → statement M
 read-number-spec =

@@ -1,4 +1,5 @@
 -- `hmac::hmac_bytes` meets its contract.
+use mathlib.Core.Path.{_∙_}
 use borrow.Author.Needs.{needs}
 use Rattle.hmac.specs.Hmac.{hmac}
 use Rattle.hmac.proofs.hmac_bytes.Statement.{statement}
@@ -24,7 +25,10 @@ hash-after-requires-2 c κs = search needs
 
 returns : tie.Need-returns
 unfolding hmac
-returns c = cc
+returns c =
+    let inner = c .before .before .before .hash-after .ensures in
+    let outer = c .hash-after2 .ensures in
+    outer ∙ rw (c .before .before .mask2 .ensures, inner, c .before .before .before .before .mask .ensures, c .before .before .before .before .before .key-block .ensures)
 
 pub hmac-bytes-spec : {M : Type 1} → statement M
 hmac-bytes-spec =

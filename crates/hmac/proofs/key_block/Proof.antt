@@ -2,6 +2,9 @@
 use mathlib.Core.Path.{ap, _∙_}
 use mathlib.Core.List.{List}
 use Prim.Native.Nat.{ℕ}
+use native.Mathlib.Omega.{arith}
+use lib.ListN.{length}
+use denote.Ref.{now}
 use borrow.Author.Tests.{le-leb, lt-leb}
 use borrow.Author.Needs.{needs}
 use Rattle.lists.specs.Buffer.{zeroFilled}
@@ -14,7 +17,9 @@ zero-filled-requires c κs = search needs
 
 returns : tie.Need-returns
 unfolding keyBlock
-returns c = rw (le-leb _ _ (c .before .if1 .taken)) (c .zero-filled .ensures)
+returns c =
+    let key = now (c .before .before .before .args .key) in
+    rw (le-leb (length key) 64 (omega arith)) (c .zero-filled .ensures)
 
 hash-bytes-requires : tie.Need-hash-bytes-requires
 hash-bytes-requires c κs = search needs
@@ -29,7 +34,8 @@ returns-2 : tie.Need-returns-2
 unfolding keyBlock
 returns-2 c =
     let h = c .before .before in
-    rw (lt-leb _ _ (h .before .if1 .left))
+    let key = now (h .before .before .before .args .key) in
+    rw (lt-leb (length key) 64 (omega arith))
     (c .zero-filled2 .ensures ∙ ap (λ (l : List ℕ). zeroFilled 64 l) (h .hash-bytes .ensures))
 
 pub key-block-spec : {M : Type 1} → statement M

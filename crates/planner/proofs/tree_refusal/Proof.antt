@@ -25,26 +25,23 @@ returns c =
     let a = c .before .before .args in
     sym (number-short (a .labels) (atOrBelow (now (a .rows))) (now (a .tree)) (omega arith))
 
-slice-aggregate-stands : tie.Need-slice-aggregate-stands Inv-loop μ-loop
-slice-aggregate-stands c = search needs
-
-stands-requires : tie.Need-stands-requires Inv-loop μ-loop
-stands-requires c κs = search needs
+marked-requires : tie.Need-marked-requires Inv-loop μ-loop
+marked-requires c κs = search needs
 
 returns-2 : tie.Need-returns-2 Inv-loop μ-loop
 returns-2 c =
-    let a = c .before .before .before .before .before .args in
+    let a = c .before .before .before .before .args in
     sym (number-foreign (a .labels) (atOrBelow (now (a .rows))) (now (a .tree)) (omega arith)
-    (sym (c .before .stands .ensures) ∙ not-true _ (c .if2 .taken)))
+    (sym (c .before .marked .ensures) ∙ not-true _ (c .if2 .taken)))
 
 add-if3 : tie.Need-add-if3 Inv-loop μ-loop
 add-if3 c = omega arith
 
 returns-3 : tie.Need-returns-3 Inv-loop μ-loop
 returns-3 c =
-    let a = c .before .before .before .before .before .before .args in
+    let a = c .before .before .before .before .before .args in
     sym (number-length (a .labels) (atOrBelow (now (a .rows))) (now (a .tree)) (omega arith)
-    (sym (c .before .before .stands .ensures) ∙ not-false _ (c .before .if2 .left)) (λ e. omega arith))
+    (sym (c .before .before .marked .ensures) ∙ not-false _ (c .before .if2 .left)) (λ e. omega arith))
 
 loop-holds : tie.Need-loop-holds Inv-loop μ-loop
 loop-holds c = (omega arith, every-all _ 0 (λ k l. absurd (omega arith)))
@@ -55,9 +52,9 @@ hangs-at-requires c κs = omega arith
 returns-4 : tie.Need-returns-4 Inv-loop μ-loop
 returns-4 c =
     let l = c .before .before .before .loop in
-    let a = c .before .before .before .before .before .before .before .before .before .before .args in
+    let a = c .before .before .before .before .before .before .before .before .before .args in
     sym (number-byte (a .labels) (atOrBelow (now (a .rows))) (now (a .tree)) (omega arith)
-    (sym (c .before .before .before .before .before .before .stands .ensures) ∙ not-false _ (c .before .before .before .before .before .if2 .left)) (omega arith)
+    (sym (c .before .before .before .before .before .before .marked .ensures) ∙ not-false _ (c .before .before .before .before .before .if2 .left)) (omega arith)
     (l .m) (omega arith) (sym (c .before .hangs-at .ensures) ∙ not-true _ (c .if4 .taken)))
 
 add-m : tie.Need-add-m Inv-loop μ-loop
@@ -69,7 +66,7 @@ loop-less c = omega arith
 loop-again : tie.Need-loop-again Inv-loop μ-loop
 loop-again c =
     let l = c .before .before .before .loop in
-    let a = c .before .before .before .before .before .before .before .before .before .before .args in (
+    let a = c .before .before .before .before .before .before .before .before .before .args in (
       omega arith,
       every-more (hangsAt (atOrBelow (now (a .rows))) (now (a .tree))) (l .m) (l .inv .1)
           (sym (c .before .hangs-at .ensures) ∙ not-false _ (c .if4 .left)),
@@ -78,9 +75,9 @@ loop-again c =
 returns-5 : tie.Need-returns-5 Inv-loop μ-loop
 returns-5 c =
     let l = c .before .loop in
-    let a = c .before .before .before .before .before .before .before .before .args in
+    let a = c .before .before .before .before .before .before .before .args in
     sym (number-none (a .labels) (atOrBelow (now (a .rows))) (now (a .tree)) (omega arith)
-    (sym (c .before .before .before .before .stands .ensures) ∙ not-false _ (c .before .before .before .if2 .left)) (omega arith)
+    (sym (c .before .before .before .before .marked .ensures) ∙ not-false _ (c .before .before .before .if2 .left)) (omega arith)
     (every-fewer (hangsAt (atOrBelow (now (a .rows))) (now (a .tree))) (a .labels) (l .m) (omega arith) (l .inv .1)))
 
 pub tree-refusal-spec : {M : Type 1} → statement M
@@ -90,8 +87,7 @@ tree-refusal-spec =
     Inv-loop
     μ-loop
     returns
-    slice-aggregate-stands
-    stands-requires
+    marked-requires
     returns-2
     add-if3
     returns-3

@@ -7,7 +7,7 @@ use Rattle.order.proofs.Exact.{table-falls}
 use Rattle.policy.proofs.Verdict.{bounds}
 use Rattle.policy.specs.Whole.{policyOf}
 use Rattle.policy.specs.declared.Policy.{Policy}
-use Rattle.planner.proofs.WorkedTables.{table-rowed, read-few, read-accepted, read-order, read-number, gives, offered-rowed, worked-answer}
+use Rattle.planner.proofs.WorkedTables.{read-few, read-accepted, read-order, read-number, gives, offered-rowed, read-weighed}
 use Rattle.planner.proofs.WeighAnswer.{weigh-policy-refused, weigh-tree-refused}
 use Rattle.planner.proofs.weigh.Statement.{statement}
 use Rattle.planner.proofs.weigh.Tie as tie
@@ -59,9 +59,9 @@ read-parents-requires c κs =
     let none = sym (read-number file same table tree (c .before .tree-refusal .ensures)) ∙ c .if2 .left in
     rw same (bounds file .0, omega (arith, gives file ok tree none .form .whole))
 
-total-of-requires : tie.Need-total-of-requires
+weigh-tree-requires : tie.Need-weigh-tree-requires
 unfolding policyOf
-total-of-requires c κs =
+weigh-tree-requires c κs =
     let t = c .before .before .before .before in
     let file = now (t .before .before .before .before .before .before .before .before .before .before .before .args .policy) in
     let tree = now (t .before .before .before .before .before .before .before .before .before .before .before .args .tree) in
@@ -69,40 +69,20 @@ total-of-requires c κs =
     let ok = read-accepted file same (t .before .before .before .before .before .before .if1 .left) in
     let table = t .before .before .before .order-table .ensures in
     let none = sym (read-number file same table tree (t .before .tree-refusal .ensures)) ∙ t .if2 .left in
-    rw (c .before .before .before .read-parents .ensures, same) (bounds file .0, offered-rowed file ok tree none)
-
-choose-parents-requires : tie.Need-choose-parents-requires
-choose-parents-requires c κs =
-    let o = c .before .before .before .before .before .before .before .before .before .before in
-    let r = o .before .before .before .before .before in
-    (read-few (now (r .before .before .before .args .policy)) (r .read-policy .ensures), rw (o .order-table .ensures) (table-falls _ _))
-
-total-of-requires-2 : tie.Need-total-of-requires-2
-total-of-requires-2 c κs =
-    let few =
-    let t = c .before .before .before .before .before .before .before .before .before .before .before .before .before .before .before .before .before .before .before in
-    read-few (now (t .before .before .before .args .policy)) (t .read-policy .ensures) in
-    rw (c .before .before .before .choose-parents .ensures) (few, table-rowed _ _ _ _ few)
+    rw (c .before .before .before .read-parents .ensures, table, same) (bounds file .0, table-falls _ _, offered-rowed file ok tree none)
 
 returns-3 : tie.Need-returns-3
 unfolding policyOf
 returns-3 c =
-    let t = c .before .before .before .before .before .before .before .before .before .before .before .before in
+    let t = c .before .before .before .before .before in
     let file = now (t .before .before .before .before .before .before .before .before .before .before .before .args .policy) in
     let tree = now (t .before .before .before .before .before .before .before .before .before .before .before .args .tree) in
     let same = t .before .before .before .before .before .before .before .before .read-policy .ensures in
     let ok = read-accepted file same (t .before .before .before .before .before .before .if1 .left) in
     let table = t .before .before .before .order-table .ensures in
     let none = sym (read-number file same table tree (t .before .tree-refusal .ensures)) ∙ t .if2 .left in
-    simp (
-      c .total-of2 .ensures,
-      c .before .before .before .before .choose-parents .ensures,
-      c .before .before .before .before .before .before .before .total-of .ensures,
-      c .before .before .before .before .before .before .before .before .before .before .before .read-parents .ensures,
-      read-order file same table,
-      same,
-    )
-    (worked-answer file ok tree none)
+    c .weigh-tree .ensures
+    ∙ rw (c .before .before .before .before .read-parents .ensures, read-order file same table, same) (read-weighed file ok tree none)
 
 pub weigh-spec : {M : Type 1} → statement M
 weigh-spec =
@@ -116,7 +96,5 @@ weigh-spec =
     refused-requires-2
     returns-2
     read-parents-requires
-    total-of-requires
-    choose-parents-requires
-    total-of-requires-2
+    weigh-tree-requires
     returns-3)

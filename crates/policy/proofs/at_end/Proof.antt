@@ -1,6 +1,6 @@
 -- `policy::at_end` meets its contract. Invariant: every label below m is placed.
-use Prim.Native.Nat.{_-_, _≤_, _<_}
-use mathlib.Core.Bool.{Bool, true, false}
+use Prim.Native.Nat.{_-_, _≤_}
+use mathlib.Core.Bool.{true, false}
 use mathlib.Core.Path.{_≡_, sym, _∙_}
 use native.Mathlib.Omega.{arith}
 use borrow.Author.Needs.{needs}

@@ -3,6 +3,7 @@ use Prim.Native.Nat.{_-_, _≤_}
 use mathlib.Core.Bool.{true, false}
 use mathlib.Core.Path.{_≡_, sym, _∙_}
 use native.Mathlib.Omega.{arith}
+use borrow.Author.Needs.{needs}
 use denote.Ref.{now}
 use Rattle.format.proofs.Search.{first-start, none-at, hit-at, miss-at}
 use Rattle.format.specs.Search.{firstFrom}
@@ -21,14 +22,17 @@ loop-holds : tie.Need-loop-holds Inv-loop μ-loop
 unfolding labelNamed
 loop-holds c = (omega arith, first-start _ _)
 
-mul-stands : tie.Need-mul-stands Inv-loop μ-loop
-mul-stands c = omega arith
+mul-read-name : tie.Need-mul-read-name Inv-loop μ-loop
+mul-read-name c = omega arith
 
-add-stands : tie.Need-add-stands Inv-loop μ-loop
-add-stands c = omega arith
+add-read-name : tie.Need-add-read-name Inv-loop μ-loop
+add-read-name c = omega arith
 
-stands-requires : tie.Need-stands-requires Inv-loop μ-loop
-stands-requires c κs = omega arith
+read-name-requires : tie.Need-read-name-requires Inv-loop μ-loop
+read-name-requires c κs = omega arith
+
+same-name-requires : tie.Need-same-name-requires Inv-loop μ-loop
+same-name-requires c κs = search needs
 
 add-i : tie.Need-add-i Inv-loop μ-loop
 add-i c = omega arith
@@ -40,23 +44,23 @@ loop-again : tie.Need-loop-again Inv-loop μ-loop
 loop-again c =
     let l = c .before .before .before .before .loop in
     let a = c .before .before .before .before .before .before .args in
-    let name = now (a .name) in
-    let e : isNamed (now (a .policy)) name (l .i) ≡ false = named (now (a .policy)) name (l .i) (omega arith) ∙ sym (c .before .stands .ensures) ∙ c .if2 .left in
-    (omega arith, l .inv .1 ∙ miss-at (isNamed (now (a .policy)) name) (l .i) (a .labels) (omega arith) e)
+    let same = named (now (a .policy)) (a .name) (c .before .before .read-name .result) (l .i) (c .before .before .read-name .ensures) in
+    let e : isNamed (now (a .policy)) (a .name) (l .i) ≡ false = same ∙ sym (c .before .same-name .ensures) ∙ c .if2 .left in
+    (omega arith, l .inv .1 ∙ miss-at (isNamed (now (a .policy)) (a .name)) (l .i) (a .labels) (omega arith) e)
 
 returns : tie.Need-returns Inv-loop μ-loop
 returns c =
     let l = c .before .loop in
     let a = c .before .before .before .args in
-    sym (l .inv .1 ∙ none-at (isNamed (now (a .policy)) (now (a .name))) (l .i) (a .labels) (c .if1 .taken))
+    sym (l .inv .1 ∙ none-at (isNamed (now (a .policy)) (a .name)) (l .i) (a .labels) (c .if1 .taken))
 
 returns-2 : tie.Need-returns-2 Inv-loop μ-loop
 returns-2 c =
     let l = c .before .before .before .before .loop in
     let a = c .before .before .before .before .before .before .args in
-    let name = now (a .name) in
-    let e : isNamed (now (a .policy)) name (l .i) ≡ true = named (now (a .policy)) name (l .i) (omega arith) ∙ sym (c .before .stands .ensures) ∙ c .if2 .taken in
-    sym (l .inv .1 ∙ hit-at (isNamed (now (a .policy)) name) (l .i) (a .labels) (omega arith) e)
+    let same = named (now (a .policy)) (a .name) (c .before .before .read-name .result) (l .i) (c .before .before .read-name .ensures) in
+    let e : isNamed (now (a .policy)) (a .name) (l .i) ≡ true = same ∙ sym (c .before .same-name .ensures) ∙ c .if2 .taken in
+    sym (l .inv .1 ∙ hit-at (isNamed (now (a .policy)) (a .name)) (l .i) (a .labels) (omega arith) e)
 
 pub find-name-spec : {M : Type 1} → statement M
 find-name-spec =
@@ -65,9 +69,10 @@ find-name-spec =
     Inv-loop
     μ-loop
     loop-holds
-    mul-stands
-    add-stands
-    stands-requires
+    mul-read-name
+    add-read-name
+    read-name-requires
+    same-name-requires
     add-i
     loop-less
     loop-again

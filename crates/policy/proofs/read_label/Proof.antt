@@ -74,14 +74,14 @@ read-number-requires c κs = search needs
 returns-3 : tie.Need-returns-3
 unfolding withName nameOf
 returns-3 c =
-    let a = c .before .before .before .before .before .before .before .before .before .before .before .args in
+    let a = c .before .before .before .before .before .before .before .before .before .before .args in
     let told = c .before .enum-told .given in
     let formed : wellFormed (nameOf (now (a .policy)) (a .labels)) ≡ true =
-    rw (← (c .before .before .before .before .before .before .before .before .read-name .ensures))
-    (sym (c .before .before .before .before .before .before .well-formed .ensures) ∙ not-false _ (c .before .before .before .before .before .if2 .left))
+    rw (← (c .before .before .before .before .before .before .before .read-name .ensures))
+    (sym (c .before .before .before .before .before .well-formed .ensures) ∙ not-false _ (c .before .before .before .before .if2 .left))
     in
     let found : labelNamed (now (a .policy)) (a .labels) (nameOf (now (a .policy)) (a .labels)) ≡ At (told .0 .0) =
-    rw (← (c .before .before .before .before .before .before .before .before .read-name .ensures))
+    rw (← (c .before .before .before .before .before .before .before .read-name .ensures))
     (sym (c .before .before .before .find-name .ensures) ∙ told .1)
     in
     rw (label-carried (now (a .policy)) (a .labels) (omega arith) formed (told .0 .0) found)
@@ -90,18 +90,18 @@ returns-3 c =
 returns-4 : tie.Need-returns-4
 unfolding withName nameOf countOf
 returns-4 c =
-    let a = c .before .before .before .before .before .before .before .before .before .before .before .args in
+    let a = c .before .before .before .before .before .before .before .before .before .before .args in
     let formed : wellFormed (nameOf (now (a .policy)) (a .labels)) ≡ true =
-    rw (← (c .before .before .before .before .before .before .before .before .read-name .ensures))
-    (sym (c .before .before .before .before .before .before .well-formed .ensures) ∙ not-false _ (c .before .before .before .before .before .if2 .left))
+    rw (← (c .before .before .before .before .before .before .before .read-name .ensures))
+    (sym (c .before .before .before .before .before .well-formed .ensures) ∙ not-false _ (c .before .before .before .before .if2 .left))
     in
     let found : labelNamed (now (a .policy)) (a .labels) (nameOf (now (a .policy)) (a .labels)) ≡ Nothing =
-    rw (← (c .before .before .before .before .before .before .before .before .read-name .ensures))
+    rw (← (c .before .before .before .before .before .before .before .read-name .ensures))
     (sym (c .before .before .before .find-name .ensures) ∙ c .before .enum-told2 .given .1)
     in
     rw (
       label-new (now (a .policy)) (a .labels) (omega arith) formed found,
-      c .before .before .before .before .before .before .before .before .read-name .ensures,
+      c .before .before .before .before .before .before .before .read-name .ensures,
       c .read-number .ensures,
     )
 

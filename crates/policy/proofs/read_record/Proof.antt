@@ -40,11 +40,8 @@ returns-2 c =
     let f = now (a .policy) in
     rw (kind-single f (a .labels) (a .pairs) (omega arith)) (c .unnamed2 .ensures)
 
-slice-aggregate-stands : tie.Need-slice-aggregate-stands
-slice-aggregate-stands c = search needs
-
-stands-requires : tie.Need-stands-requires
-stands-requires c κs = search needs
+marked-requires : tie.Need-marked-requires
+marked-requires c κs = search needs
 
 unnamed-requires-3 : tie.Need-unnamed-requires-3
 unnamed-requires-3 c κs = search needs
@@ -52,11 +49,11 @@ unnamed-requires-3 c κs = search needs
 returns-3 : tie.Need-returns-3
 unfolding recordAt withName
 returns-3 c =
-    let a = c .before .before .before .before .before .before .before .before .args in
+    let a = c .before .before .before .before .before .before .before .args in
     let f = now (a .policy) in
     rw (
       kind-marked f (a .labels) (a .pairs) (omega arith) (omega arith),
-      label-short f (a .labels) (a .pairs) (sym (c .before .before .before .stands .ensures) ∙ c .before .before .if3 .taken) (omega arith),
+      label-short f (a .labels) (a .pairs) (sym (c .before .before .before .marked .ensures) ∙ c .before .before .if3 .taken) (omega arith),
     )
     (c .unnamed3 .ensures)
 
@@ -66,11 +63,11 @@ unnamed-requires-4 c κs = search needs
 returns-4 : tie.Need-returns-4
 unfolding recordAt withName
 returns-4 c =
-    let a = c .before .before .before .before .before .before .before .before .before .args in
+    let a = c .before .before .before .before .before .before .before .before .args in
     let f = now (a .policy) in
     rw (
       kind-marked f (a .labels) (a .pairs) (omega arith) (omega arith),
-      label-late f (a .labels) (a .pairs) (sym (c .before .before .before .before .stands .ensures) ∙ c .before .before .before .if3 .taken) (omega arith) (omega arith),
+      label-late f (a .labels) (a .pairs) (sym (c .before .before .before .before .marked .ensures) ∙ c .before .before .before .if3 .taken) (omega arith) (omega arith),
     )
     (c .unnamed4 .ensures)
 
@@ -80,19 +77,16 @@ read-label-requires c κs = search needs
 returns-5 : tie.Need-returns-5
 unfolding recordAt
 returns-5 c =
-    let a = c .before .before .before .before .before .before .before .before .before .args in
+    let a = c .before .before .before .before .before .before .before .before .args in
     let f = now (a .policy) in
     rw (
       kind-marked f (a .labels) (a .pairs) (omega arith) (omega arith),
-      label-read f (a .labels) (a .pairs) (sym (c .before .before .before .before .stands .ensures) ∙ c .before .before .before .if3 .taken) (omega arith) (omega arith),
+      label-read f (a .labels) (a .pairs) (sym (c .before .before .before .before .marked .ensures) ∙ c .before .before .before .if3 .taken) (omega arith) (omega arith),
     )
     (c .read-label .ensures)
 
-slice-aggregate-stands-2 : tie.Need-slice-aggregate-stands-2
-slice-aggregate-stands-2 c = search needs
-
-stands-requires-2 : tie.Need-stands-requires-2
-stands-requires-2 c κs = search needs
+marked-requires-2 : tie.Need-marked-requires-2
+marked-requires-2 c κs = search needs
 
 unnamed-requires-5 : tie.Need-unnamed-requires-5
 unnamed-requires-5 c κs = search needs
@@ -100,11 +94,11 @@ unnamed-requires-5 c κs = search needs
 returns-6 : tie.Need-returns-6
 unfolding recordAt withName
 returns-6 c =
-    let a = c .before .before .before .before .before .before .before .before .before .before .before .args in
+    let a = c .before .before .before .before .before .before .before .before .before .args in
     let f = now (a .policy) in
     rw (
       kind-marked f (a .labels) (a .pairs) (omega arith) (omega arith),
-      over-short f (a .labels) (a .pairs) (sym (c .before .before .before .before .before .before .stands .ensures) ∙ c .before .before .before .before .before .if3 .left) (sym (c .before .before .before .stands2 .ensures) ∙ c .before .before .if6 .taken) (omega arith),
+      over-short f (a .labels) (a .pairs) (sym (c .before .before .before .before .before .marked .ensures) ∙ c .before .before .before .before .if3 .left) (sym (c .before .before .before .marked2 .ensures) ∙ c .before .before .if6 .taken) (omega arith),
     )
     (c .unnamed5 .ensures)
 
@@ -117,11 +111,11 @@ unnamed-requires-6 c κs = search needs
 returns-7 : tie.Need-returns-7
 unfolding recordAt
 returns-7 c =
-    let a = c .before .before .before .before .before .before .before .before .before .before .before .before .args in
+    let a = c .before .before .before .before .before .before .before .before .before .before .args in
     let f = now (a .policy) in
     rw (
       kind-marked f (a .labels) (a .pairs) (omega arith) (omega arith),
-      over-read f (a .labels) (a .pairs) (sym (c .before .before .before .before .before .before .before .stands .ensures) ∙ c .before .before .before .before .before .before .if3 .left) (sym (c .before .before .before .before .stands2 .ensures) ∙ c .before .before .before .if6 .taken) (omega arith),
+      over-read f (a .labels) (a .pairs) (sym (c .before .before .before .before .before .before .marked .ensures) ∙ c .before .before .before .before .before .if3 .left) (sym (c .before .before .before .before .marked2 .ensures) ∙ c .before .before .before .if6 .taken) (omega arith),
       over-unnamed,
       ← (c .before .read-over .ensures),
     )
@@ -133,11 +127,11 @@ unnamed-requires-7 c κs = search needs
 returns-8 : tie.Need-returns-8
 unfolding recordAt withName
 returns-8 c =
-    let a = c .before .before .before .before .before .before .before .before .before .before .args in
+    let a = c .before .before .before .before .before .before .before .before .args in
     let f = now (a .policy) in
     rw (
       kind-marked f (a .labels) (a .pairs) (omega arith) (omega arith),
-      kind-foreign f (a .labels) (a .pairs) (sym (c .before .before .before .before .before .stands .ensures) ∙ c .before .before .before .before .if3 .left) (sym (c .before .before .stands2 .ensures) ∙ c .before .if6 .left),
+      kind-foreign f (a .labels) (a .pairs) (sym (c .before .before .before .before .marked .ensures) ∙ c .before .before .before .if3 .left) (sym (c .before .before .marked2 .ensures) ∙ c .before .if6 .left),
     )
     (c .unnamed7 .ensures)
 
@@ -153,16 +147,14 @@ read-record-spec =
     returns
     unnamed-requires-2
     returns-2
-    slice-aggregate-stands
-    stands-requires
+    marked-requires
     unnamed-requires-3
     returns-3
     unnamed-requires-4
     returns-4
     read-label-requires
     returns-5
-    slice-aggregate-stands-2
-    stands-requires-2
+    marked-requires-2
     unnamed-requires-5
     returns-6
     read-over-requires

@@ -1,10 +1,9 @@
 -- `text::plan_text` meets its contract.
-use Prim.Native.Nat.{_≤_}
 use mathlib.Core.Path.{sym, ap, _∙_}
 use native.Mathlib.Omega.{arith}
 use lib.ListN.{length}
 use Rattle.text.specs.Listing.{planText}
-use Rattle.text.proofs.Answers.{text-length, text-taken, written-yes, buffer-yes, written-no, buffer-no}
+use Rattle.text.proofs.Answers.{text-length, text-taken, text-handed, handed-written, handed-left}
 use Rattle.text.proofs.Plans.{plan-printable, text-suffices}
 use borrow.Author.Needs.{needs}
 use Rattle.text.proofs.plan_text.Statement.{statement}
@@ -25,49 +24,33 @@ write-text-requires c κs =
 
 returns : tie.Need-returns
 returns c =
-    let w = c .before .before in
+    let h = c .before .before in
+    let w = h .before .before .before .before in
     let p = w .before .before .plan-policy .ensures in
     let a = w .before .before .before .before .before .args in
-    let l = text-length (a .policy .now) p (w .write-text .ensures) in
-    (written-no (a .policy .now) (a .out .now) (omega arith), buffer-no (a .policy .now) (a .out .now) (omega arith))
+    let t = text-handed (a .policy .now) p (w .write-text .ensures) (h .hand-out .ensures) in
+    (handed-written (a .policy .now) (a .out .now) t, handed-left (a .policy .now) (a .out .now) t)
 
 array-share-prefix-text : tie.Need-array-share-prefix-text
 array-share-prefix-text c =
-    let w = c .before .before .before in
+    let w = c .before in
     let p = w .before .before .plan-policy .ensures in
     let a = w .before .before .before .before .before .args in
     let l = text-length (a .policy .now) p (w .write-text .ensures) in
     omega (arith, text-suffices (a .policy .now))
 
-slice-aggregate-put-bytes : tie.Need-slice-aggregate-put-bytes
-slice-aggregate-put-bytes c =
-    let w = c .before .before .before .before in
+slice-aggregate-hand-out : tie.Need-slice-aggregate-hand-out
+slice-aggregate-hand-out c =
+    let w = c .before .before in
     let p = w .before .before .plan-policy .ensures in
     let a = w .before .before .before .before .before .args in
-    let l = text-length (a .policy .now) p (w .write-text .ensures) in
-    l ∙ ap length (sym (text-taken (a .policy .now) p (w .write-text .ensures)))
+    text-length (a .policy .now) p (w .write-text .ensures) ∙ ap length (sym (text-taken (a .policy .now) p (w .write-text .ensures)))
 
-put-bytes-requires : tie.Need-put-bytes-requires
-put-bytes-requires c κs =
-    let w = c .before .before .before .before in
-    let p = w .before .before .plan-policy .ensures in
-    let a = w .before .before .before .before .before .args in
-    let l = text-length (a .policy .now) p (w .write-text .ensures) in
-    rw (text-taken (a .policy .now) p (w .write-text .ensures)) (omega arith)
+hand-out-requires : tie.Need-hand-out-requires
+hand-out-requires c κs = search needs
 
 same-length : tie.Need-same-length
 same-length c = search needs
-
-returns-2 : tie.Need-returns-2
-returns-2 c =
-    let w = c .before .before .before .before .before .before .before in
-    let p = w .before .before .plan-policy .ensures in
-    let a = w .before .before .before .before .before .args in
-    let l = text-length (a .policy .now) p (w .write-text .ensures) in
-    let room : length (planText (a .policy .now)) ≤ length (a .out .now) = omega arith in (
-      written-yes (a .policy .now) (a .out .now) room (w .write-text .result) l,
-      c .before .before .put-bytes .ensures .written ∙ rw (text-taken (a .policy .now) p (w .write-text .ensures)) (buffer-yes (a .policy .now) (a .out .now) room),
-    )
 
 pub plan-text-spec : {M : Type 1} → statement M
 plan-text-spec =
@@ -76,9 +59,8 @@ plan-text-spec =
     plan-policy-requires
     slice-aggregate-write-text
     write-text-requires
-    returns
     array-share-prefix-text
-    slice-aggregate-put-bytes
-    put-bytes-requires
+    slice-aggregate-hand-out
+    hand-out-requires
     same-length
-    returns-2)
+    returns)

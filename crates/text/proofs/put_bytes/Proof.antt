@@ -28,7 +28,7 @@ returns c =
     let p = c .before .before in
     let s = p .before .before .before .before in
     let a = s .args in
-    record { behind = refl; written = part-copied (a .out .now) (a .at) (a .bytes .now) (p .copy .last .1 .0) (s .pre) (p .copy .ensures .1) }
+    record { fits = s .pre; behind = refl; written = part-copied (a .out .now) (a .at) (a .bytes .now) (p .copy .last .1 .0) (s .pre) (p .copy .ensures .1) }
 
 pub put-bytes-spec : {M : Type 1} → statement M
 put-bytes-spec =

@@ -17,6 +17,11 @@ abbrev μ-loop : tie.MeasureT-loop
 loop-holds : tie.Need-loop-holds Inv-loop μ-loop
 loop-holds c = gathered-none (c .before .args .x) _ (omega arith) refl
 
+loop-again : tie.Need-loop-again Inv-loop μ-loop
+loop-again c =
+    let l = c .before .loop in
+    gathered-more (c .before .before .before .args .x) (l .digits) (l .i) (l .rest) (l .inv) (omega arith) .1
+
 cast-digits : tie.Need-cast-digits Inv-loop μ-loop
 cast-digits c = search needs
 
@@ -36,11 +41,6 @@ loop-less c =
     let l = c .before .loop in
     let h : 1 ≤ l .i = gathered-more (c .before .before .before .args .x) (l .digits) (l .i) (l .rest) (l .inv) (omega arith) .0 in
     omega arith
-
-loop-again : tie.Need-loop-again Inv-loop μ-loop
-loop-again c =
-    let l = c .before .loop in
-    gathered-more (c .before .before .before .args .x) (l .digits) (l .i) (l .rest) (l .inv) (omega arith) .1
 
 cast-digits-2 : tie.Need-cast-digits-2 Inv-loop μ-loop
 cast-digits-2 c = search needs

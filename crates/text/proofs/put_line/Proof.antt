@@ -7,6 +7,17 @@ use borrow.Author.Needs.{needs}
 use Rattle.text.proofs.put_line.Statement.{statement}
 use Rattle.text.proofs.put_line.Tie as tie
 
+returns : tie.Need-returns
+unfolding countOf
+returns c =
+    let e = c .before .before in
+    let w = e .before .before .before .before .before in
+    let names = w .before .before .before .before in
+    let n = names .before .before in
+    let s = n .before .before .before .before .before in
+    rw (line-parts (s .args .policy .now) (s .args .t2) (s .args .m) (n .read-number .result) (n .read-number .ensures))
+    (put-next (put-next (names .put-names .ensures) (w .put-numbers .ensures)) (e .put-bytes .ensures))
+
 mul-weight : tie.Need-mul-weight
 mul-weight c = search needs
 
@@ -60,18 +71,6 @@ put-bytes-requires c κs =
 
 same-length : tie.Need-same-length
 same-length c = search needs
-
-returns : tie.Need-returns
-unfolding countOf
-returns c =
-    let e = c .before .before in
-    let w = e .before .before .before .before .before in
-    let names = w .before .before .before .before in
-    let n = names .before .before in
-    let s = n .before .before .before .before .before in
-    let l = line-length (s .args .policy .now) (s .args .t2) (s .args .m) (n .read-number .result) (n .read-number .ensures) in
-    rw (line-parts (s .args .policy .now) (s .args .t2) (s .args .m) (n .read-number .result) (n .read-number .ensures))
-    (put-next (put-next (names .put-names .ensures) (w .put-numbers .ensures) (omega arith)) (e .put-bytes .ensures) (omega arith))
 
 pub put-line-spec : {M : Type 1} → statement M
 put-line-spec =

@@ -40,9 +40,7 @@ unfolding lines
 loop-again c =
     let p = c .before .before in
     let l = p .before .before .before .loop in
-    let s = p .before .before .before .before .before .before in
-    let f = lines-fit (s .args .policy .now) (s .args .plan) (s .args .plan .labels) (l .m) (omega arith) in
-    (omega arith, omega arith, rw add-one (put-next (l .inv .2) (p .put-line .ensures) (omega arith)))
+    (omega arith, omega arith, rw add-one (put-next (l .inv .2) (p .put-line .ensures)))
 
 same-length : tie.Need-same-length Inv-loop μ-loop
 same-length c = search needs

@@ -1,6 +1,6 @@
 -- `text::put_names` meets its contract.
 use native.Mathlib.Omega.{arith}
-use Rattle.text.specs.Put.{names}
+use Rattle.text.specs.Listing.{names}
 use Rattle.text.proofs.Writes.{put-next}
 use Rattle.text.proofs.Parts.{names-length}
 use borrow.Author.Needs.{needs}
@@ -37,9 +37,7 @@ returns c =
     let p = c .before .before in
     let b = p .before .before .before .before in
     let n = b .before .before .before .before .before in
-    let a = n .before .before .before .before .args in
-    let l = names-length (a .policy .now) (a .plan) (a .m) in
-    put-next (put-next (n .put-name .ensures) (b .put-bytes .ensures) (omega arith)) (p .put-parent .ensures) (omega arith)
+    put-next (put-next (n .put-name .ensures) (b .put-bytes .ensures)) (p .put-parent .ensures)
 
 pub put-names-spec : {M : Type 1} → statement M
 put-names-spec =

@@ -1,5 +1,4 @@
 -- `text::put_number` meets its contract.
-use native.Mathlib.Omega.{arith}
 use Rattle.text.proofs.Writes.{put-next}
 use borrow.Author.Needs.{needs}
 use Rattle.text.proofs.put_number.Statement.{statement}
@@ -21,7 +20,7 @@ returns : tie.Need-returns
 returns c =
     let d = c .before .before in
     let b = d .before .before .before .before in
-    put-next (b .put-bytes .ensures) (d .put-decimal .ensures) (omega arith)
+    put-next (b .put-bytes .ensures) (d .put-decimal .ensures)
 
 pub put-number-spec : {M : Type 1} → statement M
 put-number-spec =

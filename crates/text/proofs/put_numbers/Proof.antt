@@ -1,6 +1,6 @@
 -- `text::put_numbers` meets its contract.
 use native.Mathlib.Omega.{arith}
-use Rattle.text.specs.Put.{numbers}
+use Rattle.text.specs.Listing.{numbers}
 use Rattle.text.proofs.Writes.{put-next}
 use Rattle.text.proofs.Parts.{numbers-length}
 use borrow.Author.Needs.{needs}
@@ -34,9 +34,7 @@ returns c =
     let w3 = c .before .before in
     let w2 = w3 .before .before .before .before in
     let w1 = w2 .before .before .before .before in
-    let a = w1 .before .before .before .args in
-    let l = numbers-length (a .weight) (a .size) (a .count) in
-    put-next (put-next (w1 .put-number .ensures) (w2 .put-number2 .ensures) (omega arith)) (w3 .put-number3 .ensures) (omega arith)
+    put-next (put-next (w1 .put-number .ensures) (w2 .put-number2 .ensures)) (w3 .put-number3 .ensures)
 
 pub put-numbers-spec : {M : Type 1} → statement M
 put-numbers-spec =

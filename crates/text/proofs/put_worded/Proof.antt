@@ -1,6 +1,6 @@
 -- `text::put_worded` meets its contract.
 use native.Mathlib.Omega.{arith}
-use Rattle.text.specs.Put.{worded}
+use Rattle.text.specs.Listing.{worded}
 use Rattle.text.proofs.Writes.{put-next}
 use Rattle.text.proofs.Parts.{worded-length}
 use borrow.Author.Needs.{needs}
@@ -34,9 +34,7 @@ returns c =
     let e = c .before .before in
     let n = e .before .before .before .before .before in
     let b = n .before .before .before .before in
-    let s = b .before .before .before .before in
-    let l = worded-length (s .args .word .now) (s .args .x) in
-    put-next (put-next (b .put-bytes .ensures) (n .put-number .ensures) (omega arith)) (e .put-bytes2 .ensures) (omega arith)
+    put-next (put-next (b .put-bytes .ensures) (n .put-number .ensures)) (e .put-bytes2 .ensures)
 
 pub put-worded-spec : {M : Type 1} → statement M
 put-worded-spec =

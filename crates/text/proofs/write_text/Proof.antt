@@ -7,6 +7,21 @@ use borrow.Author.Needs.{needs}
 use Rattle.text.proofs.write_text.Statement.{statement}
 use Rattle.text.proofs.write_text.Tie as tie
 
+returns : tie.Need-returns
+returns c =
+    let p = c .before .before in
+    let i = p .before .before .before .before in
+    let s = i .before .before .before .before in
+    rw (listing-refused (s .args .policy .now) (s .args .plan) (i .if1 .taken)) (p .put-worded .ensures)
+
+returns-2 : tie.Need-returns-2
+returns-2 c =
+    let e = c .before .before in
+    let p = e .before .before .before .before .before in
+    let i = p .before .before in
+    let s = i .before .before .before .before in
+    rw (listing-accepted (s .args .policy .now) (s .args .plan) (i .if1 .left)) (put-next (p .put-lines .ensures) (e .put-worded2 .ensures))
+
 slice-aggregate-put-worded : tie.Need-slice-aggregate-put-worded
 slice-aggregate-put-worded c = search needs
 
@@ -22,13 +37,6 @@ put-worded-requires c κs =
 
 same-length : tie.Need-same-length
 same-length c = search needs
-
-returns : tie.Need-returns
-returns c =
-    let p = c .before .before in
-    let i = p .before .before .before .before in
-    let s = i .before .before .before .before in
-    rw (listing-refused (s .args .policy .now) (s .args .plan) (i .if1 .taken)) (p .put-worded .ensures)
 
 put-lines-requires : tie.Need-put-lines-requires
 put-lines-requires c κs =
@@ -50,15 +58,6 @@ put-worded-requires-2 c κs =
 
 same-length-2 : tie.Need-same-length-2
 same-length-2 c = search needs
-
-returns-2 : tie.Need-returns-2
-returns-2 c =
-    let e = c .before .before in
-    let p = e .before .before .before .before .before in
-    let i = p .before .before in
-    let s = i .before .before .before .before in
-    let h = rw (listing-accepted (s .args .policy .now) (s .args .plan) (i .if1 .left)) at (s .pre .1) in
-    rw (listing-accepted (s .args .policy .now) (s .args .plan) (i .if1 .left)) (put-next (p .put-lines .ensures) (e .put-worded2 .ensures) (omega (arith, simp length-append at h)))
 
 pub write-text-spec : {M : Type 1} → statement M
 write-text-spec =

@@ -1,14 +1,15 @@
 -- `weights::least_parent` meets its contract. Invariant: b is the best of the labels below p, and w its weight.
 use Prim.Native.Nat.{_-_, _≤_}
-use mathlib.Core.Path.{_≡_, refl, sym, _∙_}
+use mathlib.Core.Path.{_≡_, sym, _∙_}
 use native.Mathlib.Omega.{arith}
 use borrow.Author.Needs.{needs}
 use denote.Ref.{now}
 use Rattle.order.specs.Table.{atOrBelow}
-use Rattle.trees.specs.Weights.{weight, best, leastParent}
+use Rattle.trees.specs.Weights.{weight, best}
 use Rattle.trees.proofs.Ties.{best-early}
 use Rattle.weights.specs.Tables.{entries}
 use Rattle.weights.proofs.Above.{weight-from}
+use Rattle.weights.proofs.Choices.{choice-top, choice-under}
 use Rattle.weights.proofs.Turns.{best-one, best-passed, best-taken, best-left}
 use Rattle.weights.proofs.least_parent.Statement.{statement}
 use Rattle.weights.proofs.least_parent.Tie as tie
@@ -20,9 +21,16 @@ Inv-loop labels counts rows m above b₀ w₀ p₀ b w p =
 abbrev μ-loop : tie.MeasureT-loop
 μ-loop labels counts rows m above b₀ w₀ p₀ b w p = m - p
 
+element-copy-out-accounts : tie.Need-element-copy-out-accounts Inv-loop μ-loop
+element-copy-out-accounts c = search needs
+
+accounts-requires : tie.Need-accounts-requires Inv-loop μ-loop
+accounts-requires c κs = search needs
+
 returns : tie.Need-returns Inv-loop μ-loop
-unfolding leastParent best
-returns c = (rw (c .if1 .taken) refl, omega arith)
+returns c =
+    let a = c .before .before .before .args in
+    (choice-top (a .labels) (entries (now (a .counts))) (atOrBelow (now (a .rows))) (a .m) (c .before .before .if1 .taken) _ (c .accounts .ensures .0), omega arith)
 
 accounts-above-requires : tie.Need-accounts-above-requires Inv-loop μ-loop
 accounts-above-requires c κs = search needs
@@ -99,13 +107,14 @@ loop-again-3 c =
     (omega arith, best-passed (a .labels) (entries (now (a .counts))) (atOrBelow (now (a .rows))) (a .m) (l .p) (l .best) (l .inv .1) (c .if2 .left), l .inv .2)
 
 returns-2 : tie.Need-returns-2 Inv-loop μ-loop
-unfolding leastParent
 returns-2 c =
     let l = c .before .loop in
     let a = c .before .before .before .before .before .before .args in
     let end : l .p ≡ a .m = omega arith in
-    let e : l .best ≡ best (a .labels) (entries (now (a .counts))) (atOrBelow (now (a .rows))) (a .m) (a .m) = rw end at (l .inv .1) in
-    (e, omega (arith, best-early (a .labels) (entries (now (a .counts))) (atOrBelow (now (a .rows))) (a .m) (a .m)))
+    let count = entries (now (a .counts)) in
+    let le = atOrBelow (now (a .rows)) in
+    let e : l .best ≡ best (a .labels) count le (a .m) (a .m) = rw end at (l .inv .1) in
+    (choice-under (a .labels) count le (a .m) (c .before .before .before .before .before .if1 .left) (l .best) (l .least) e (l .inv .2), omega (arith, best-early (a .labels) count le (a .m) (a .m)))
 
 pub least-parent-spec : {M : Type 1} → statement M
 least-parent-spec =
@@ -113,6 +122,8 @@ least-parent-spec =
     (tie.spec
     Inv-loop
     μ-loop
+    element-copy-out-accounts
+    accounts-requires
     returns
     accounts-above-requires
     weight-requires

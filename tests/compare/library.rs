@@ -1,0 +1,73 @@
+//! The C interface of the proved library.
+
+#[repr(C)]
+pub struct Digest {
+    pub refusal: u8,
+    pub bytes: [u8; 32],
+}
+
+#[repr(C)]
+#[derive(Clone, Copy)]
+pub struct Pair {
+    pub upper: u8,
+    pub lower: u8,
+}
+
+#[repr(C)]
+pub struct Policy {
+    pub refusal: u8,
+    pub labels: usize,
+    pub pairs: usize,
+    pub counts: [u16; 64],
+    pub over: [Pair; 512],
+}
+
+#[repr(C)]
+#[derive(Debug, PartialEq)]
+pub struct Plan {
+    pub refusal: u8,
+    pub labels: usize,
+    pub parents: [u8; 64],
+    pub weights: [u32; 64],
+    pub sizes: [u8; 64],
+    pub total: u32,
+}
+
+#[repr(C)]
+#[derive(Debug, PartialEq)]
+pub struct Weighed {
+    pub refusal: u8,
+    pub total: u32,
+    pub least: bool,
+}
+
+#[repr(C)]
+pub struct Written {
+    pub refusal: u8,
+    pub length: usize,
+}
+
+extern "C" {
+    pub fn yendlowa_sha256(message: *const u8, length: usize) -> Digest;
+    pub fn yendlowa_hmac_sha256(
+        key: *const u8,
+        key_length: usize,
+        message: *const u8,
+        message_length: usize,
+    ) -> Digest;
+    pub fn yendlowa_read_policy(policy: *const u8, length: usize) -> Policy;
+    pub fn yendlowa_order(policy: *const u8, length: usize, rows: *mut [[bool; 64]; 64]) -> u8;
+    pub fn yendlowa_plan(policy: *const u8, length: usize) -> Plan;
+    pub fn yendlowa_weigh(
+        policy: *const u8,
+        policy_length: usize,
+        tree: *const u8,
+        tree_length: usize,
+    ) -> Weighed;
+    pub fn yendlowa_plan_text(
+        policy: *const u8,
+        policy_length: usize,
+        out: *mut u8,
+        out_length: usize,
+    ) -> Written;
+}

@@ -153,8 +153,8 @@ fn weigh_tree(
     requires { ⌜ (labels ≤ 64) × Falls (atOrBelow (now rows)) × Rowed labels (now offered) ⌝ }
     ensures { λ r. ⌜ r ≡ treeWeighed labels (entries (now (counts .entry))) (atOrBelow (now (rows .entry))) (entries (now (offered .entry))) ⌝ }
 {
-    let least = weights::choose(labels, counts, rows);
-    let planned = least.parents;
+    let best = weights::choose(labels, counts, rows);
+    let planned = best.parents;
     let fewest = total_of(labels, counts, rows, &planned);
     let total = total_of(labels, counts, rows, offered);
     Weighed {

@@ -5,23 +5,28 @@ use Rattle.planner.proofs.PlanAnswer.{plan-answer-tree, plan-answer-hangs, plan
 use Rattle.planner.proofs.PolicyOrder.{policy-order}
 use Rattle.planner.proofs.WeighAnswer.{weigh-accepted, weigh-total, weigh-yes, weigh-yes-equal, weigh-yes-smallest}
 use Rattle.policy.specs.Whole.{Accepted}
-use Rattle.trees.proofs.Demand3.{demand3}
-use Rattle.claims.specs.Demand3.{Demand3, OfTree, OfPlan, OfOffer, TreeOf, count}
+use Rattle.trees.proofs.Fewest.{fewest-unique, fewest-equals}
+use Rattle.trees.proofs.Published.{gamma}
+use Rattle.trees.proofs.Smallest.{smallest-sufficient, smallest-within, smallest-shortest}
+use Rattle.trees.proofs.Totals.{smallest-assigned, smallest-keys, total-weights, total-needed}
+use Rattle.trees.specs.Order.{Order}
+use Rattle.claims.specs.Demand3.{Demand3, OfTree, OfPlan, OfOffer, TreeOf, n, count, R, le}
 
 module _ (file : List ℕ) (ok : Accepted file) where
+  order : Order (n file) (R file) (le file)
+  order = policy-order file ok
+
   of-tree : (parent : ℕ → ℕ) → TreeOf file parent → OfTree file parent
-  of-tree parent tree =
-      let t = demand3 (policy-order file ok) (count file) .tree parent tree in
-      record {
-        sufficient = t .sufficient;
-        within = t .within;
-        shortest = t .shortest;
-        assigned = t .assigned;
-        issues = t .issues;
-        needed = t .needed;
-        weighs = t .weighs;
-        equals = t .equals;
-      }
+  of-tree parent T = record {
+    sufficient = λ l hl. smallest-sufficient order T hl;
+    within = λ l hl. smallest-within order T hl;
+    shortest = λ l hl. smallest-shortest order T hl;
+    assigned = smallest-assigned order (count file) T;
+    issues = smallest-keys (n file) (count file) (le file) parent;
+    needed = total-needed order (count file) T;
+    weighs = total-weights order (count file) parent;
+    equals = fewest-equals order (count file) T;
+  }
 
   of-plan : OfPlan file
   of-plan = record {
@@ -46,12 +51,10 @@ module _ (file : List ℕ) (ok : Accepted file) where
   }
 
   pub demand3-of-policy : Demand3 file
-  demand3-of-policy =
-      let d = demand3 (policy-order file ok) (count file) in
-      record {
-        weight-counts = λ p m l hp hm hl. d .weight-counts p m hp hm l hl;
-        one = d .one;
-        trees = of-tree;
-        plan = of-plan;
-        offers = of-offer;
-      }
+  demand3-of-policy = record {
+    weight-counts = λ p m l hp hm hl. gamma order hl hp hm;
+    one = λ j k F G. fewest-unique F G;
+    trees = of-tree;
+    plan = of-plan;
+    offers = of-offer;
+  }

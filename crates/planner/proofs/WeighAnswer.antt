@@ -11,7 +11,8 @@ use lib.Dec.{eqb}
 use Rattle.order.specs.Order.{AtOrBelow}
 use Rattle.policy.specs.File.{countOf}
 use Rattle.policy.specs.Whole.{refusalOf, labelsOf, pairsOf, Accepted}
-use Rattle.trees.proofs.Demand3.{OfTree, demand3}
+use Rattle.trees.proofs.Fewest.{yes-fewest, yes-equals, yes-no-smaller}
+use Rattle.trees.specs.Order.{Order}
 use Rattle.trees.specs.Trees.{Tree, Fewest}
 use Rattle.trees.specs.Weights.{total, least}
 use Rattle.planner.proofs.PlanAnswer.{plan-answer-fewest}
@@ -80,8 +81,8 @@ module _ (policy tree : List ℕ) where
       pub weigh-read : Tree n R (parentIn tree)
       weigh-read = weigh-accepted .0 read .hung
 
-      of-tree : OfTree n count R le (parentIn tree)
-      of-tree = demand3 (policy-order policy ok) count .tree (parentIn tree) weigh-read
+      order : Order n R le
+      order = policy-order policy ok
 
       passed : eqb (weighRefusal policy tree) 0 ≡ true
       passed = eq-eqb (weighRefusal policy tree) 0 (number ∙ sym weigh-number ∙ read)
@@ -97,11 +98,11 @@ module _ (policy tree : List ℕ) where
 
       -- "and a yes exactly when the two are equal": its own total and the fewest
       pub weigh-yes : (answer .least ≡ true) ↔ Fewest n count R (answer .total)
-      weigh-yes = rw (weigh-least, weigh-total) (of-tree .yes-is-fewest)
+      weigh-yes = rw (weigh-least, weigh-total) (yes-fewest order count weigh-read)
 
       pub weigh-yes-equal : (answer .least ≡ true) ↔ (answer .total ≡ planOf policy .total)
-      weigh-yes-equal = rw (weigh-least, weigh-total) (of-tree .yes-equal (planOf policy .total) (plan-answer-fewest policy ok))
+      weigh-yes-equal = rw (weigh-least, weigh-total) (yes-equals order count weigh-read (planOf policy .total) (plan-answer-fewest policy ok))
 
       -- 01: "yes exactly when no derivation tree of the policy has a smaller total"
       pub weigh-yes-smallest : (answer .least ≡ true) ↔ ((other : ℕ → ℕ) → Tree n R other → answer .total ≤ total n count le other)
-      weigh-yes-smallest = rw (weigh-least, weigh-total) (of-tree .yes-smallest)
+      weigh-yes-smallest = rw (weigh-least, weigh-total) (yes-no-smaller order count weigh-read)

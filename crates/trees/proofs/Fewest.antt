@@ -89,9 +89,12 @@ module _ {n : ℕ} {R : ℕ → ℕ → Type 0} {le : ℕ → ℕ → Bool} (O :
     pub fewest-hangs : Fewest n count R (total n count le parent) → HangsLeast n count R le parent
     fewest-hangs F = small-hangs (F .fewest (total n count le (plan n count le)) (total-enough O count plan-tree))
 
-    -- total = fewest exactly when all parents have least weight
-    pub fewest-exactly : Fewest n count R (total n count le parent) ↔ HangsLeast n count R le parent
-    fewest-exactly = (fewest-hangs, least-fewest)
+    -- for the number k that is the fewest, "is the fewest" and "equals it" are the same
+    same-fewest : (k : ℕ) → Fewest n count R k → Fewest n count R (total n count le parent) ↔ (total n count le parent ≡ k)
+    same-fewest k F = (λ G. fewest-unique G F, λ e. subst (Fewest n count R) (sym e) F)
+
+    pub fewest-equals : (k : ℕ) → Fewest n count R k → (total n count le parent ≡ k) ↔ HangsLeast n count R le parent
+    fewest-equals k F = (λ e. fewest-hangs (same-fewest k F .1 e), λ H. same-fewest k F .0 (least-fewest H))
 
     -- ---- the answer for an offered tree
 
@@ -101,6 +104,9 @@ module _ {n : ℕ} {R : ℕ → ℕ → Type 0} {le : ℕ → ℕ → Bool} (O :
       λ y. subst (Fewest n count R) (sym (eqb-true (total n count le parent) (total n count le (plan n count le)) y)) plan-fewest,
       λ F. eq-eqb (total n count le parent) (total n count le (plan n count le)) (fewest-unique F plan-fewest),
     )
+
+    pub yes-equals : (k : ℕ) → Fewest n count R k → (least n count le parent ≡ true) ↔ (total n count le parent ≡ k)
+    yes-equals k F = (λ y. same-fewest k F .0 (yes-fewest .0 y), λ e. yes-fewest .1 (same-fewest k F .1 e))
 
     pub yes-no-smaller : (least n count le parent ≡ true) ↔ ((q : ℕ → ℕ) → Tree n R q → total n count le parent ≤ total n count le q)
     yes-no-smaller = (

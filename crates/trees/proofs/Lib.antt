@@ -6,7 +6,6 @@ pub mod Smallest
 pub mod Totals
 pub mod Ties
 pub mod Fewest
-pub mod Demand3
 pub mod Published
 pub mod Examples
 pub mod Tables

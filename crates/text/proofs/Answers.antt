@@ -1,18 +1,18 @@
 -- What `plan_text` answers and leaves, from what stands in the buffer of its own.
-use Prim.Native.Nat.{ℕ, _≤_}
-use mathlib.Core.Bool.{Bool, true, false, cond}
+use Prim.Native.Nat.{ℕ, _≤_, _<_}
+use mathlib.Core.Bool.{Bool, true, false}
 use mathlib.Core.List.{List}
-use mathlib.Core.Path.{_≡_, refl, ap₂}
+use mathlib.Core.Path.{_≡_, refl}
 use native.Mathlib.Omega.{arith}
-use borrow.Author.Tests.{le-leb, leb-true, leb-false}
+use borrow.Author.Tests.{le-leb, lt-leb, leb-true}
 use lib.Dec.{leb}
 use lib.ListN.{length, take, length-append, length-drop}
 use Rattle.lists.specs.Buffer.{pasted}
 use Rattle.planner.specs.Planned.{planOf}
 use Rattle.planner.specs.declared.Plan.{Plan}
-use Rattle.text.specs.Answer.{writtenOf, bufferAfter}
+use Rattle.text.specs.Answer.{handed, handedInto, writtenOf, bufferAfter}
 use Rattle.text.specs.Listing.{listing, planText}
-use Rattle.text.specs.Put.{Put, Handed}
+use Rattle.text.specs.Put.{Put}
 use Rattle.text.specs.declared.Written.{Written}
 use Rattle.text.proofs.Plans.{text-suffices}
 use Rattle.text.proofs.Writes.{put-front}
@@ -30,38 +30,45 @@ module _ (file : List ℕ) {d e : List ℕ} {plan : Plan} {r : ℕ} (same : plan
   text-taken = put-front text-put
 
   -- its front of that length, handed out
-  pub text-handed : {out after : List ℕ} {w : Written} → Handed (take r e) out after w → Handed (planText file) out after w
-  text-handed h = rw text-taken at h
+  module _ (out : List ℕ) where
+    pub text-written : handed (take r e) (length out) ≡ writtenOf file (length out)
+    unfolding writtenOf
+    text-written = rw text-taken
+
+    pub text-left : handedInto (take r e) out ≡ bufferAfter file out
+    unfolding bufferAfter
+    text-left = rw text-taken
 
 abbrev answer : (refusal size : ℕ) → Written
 answer refusal size = record { refusal = refusal; length = size }
 
+-- what is handed out, with room and with none
+module _ (s : List ℕ) (room : ℕ) where
+  pub handed-room : length s ≤ room → answer 0 (length s) ≡ handed s room
+  unfolding handed
+  handed-room h = rw (le-leb (length s) room h)
+
+  pub handed-none : room < length s → answer 16 0 ≡ handed s room
+  unfolding handed
+  handed-none h = rw (lt-leb (length s) room h)
+
+module _ (s out : List ℕ) where
+  pub left-room : length s ≤ length out → {after : List ℕ} → after ≡ pasted out 0 s → after ≡ handedInto s out
+  unfolding handedInto
+  left-room h e = rw (le-leb (length s) (length out) h) e
+
+  pub left-none : length out < length s → out ≡ handedInto s out
+  unfolding handedInto
+  left-none h = rw (lt-leb (length s) (length out) h)
+
 module _ (file out : List ℕ) where
-  -- the text handed out: the answer, and the buffer after it
-  module _ {after : List ℕ} {w : Written} (h : Handed (planText file) out after w) where
-    pub handed-written : w ≡ writtenOf file (length out)
-    unfolding writtenOf
-    handed-written = go (leb (length (planText file)) (length out)) refl
-      where
-        go : (t : Bool) → leb (length (planText file)) (length out) ≡ t → w ≡ cond t (answer 0 (length (planText file))) (answer 16 0)
-        go true e = let r = h .room (leb-true (length (planText file)) (length out) e) in ap₂ answer (r .0) (r .1)
-        go false e = let r = h .none (leb-false (length (planText file)) (length out) e) in ap₂ answer (r .0) (r .1)
-
-    pub handed-left : after ≡ bufferAfter file out
-    unfolding bufferAfter
-    handed-left = go (leb (length (planText file)) (length out)) refl
-      where
-        go : (t : Bool) → leb (length (planText file)) (length out) ≡ t → after ≡ cond t (pasted out 0 (planText file)) out
-        go true e = h .room (leb-true (length (planText file)) (length out) e) .2
-        go false e = h .none (leb-false (length (planText file)) (length out) e) .2
-
   front-length : length (planText file) ≤ length out → length (pasted out 0 (planText file)) ≡ length out
   unfolding pasted
   front-length room = simp (length-append, length-drop) (omega arith)
 
   -- the length that is answered lies within the buffer
   pub written-within : (w : Written) (after : List ℕ) → w ≡ writtenOf file (length out) → after ≡ bufferAfter file out → w .length ≤ length after
-  unfolding writtenOf bufferAfter
+  unfolding writtenOf bufferAfter handed handedInto
   written-within w after e f = go (leb (length (planText file)) (length out)) refl
     where
       go : (b : Bool) → leb (length (planText file)) (length out) ≡ b → w .length ≤ length after
@@ -72,5 +79,5 @@ module _ (file out : List ℕ) where
 
 -- a buffer of 4,096 bytes, or of 3,281, has room for every text
 pub room-suffices : (file : List ℕ) (room : ℕ) → 3281 ≤ room → writtenOf file room ≡ record { refusal = 0; length = length (planText file) }
-unfolding writtenOf
+unfolding writtenOf handed
 room-suffices file room h = rw (le-leb (length (planText file)) room (omega (arith, text-suffices file)))

@@ -8,13 +8,17 @@ use Rattle.lists.specs.Buffer.{pasted}
 use Rattle.text.specs.Listing.{planText}
 use Rattle.text.specs.declared.Written.{Written}
 
--- the text's length if the buffer has room for it, else 16, "buffer shorter", and no length
-unfoldable pub writtenOf : List ℕ → (room : ℕ) → Written
-writtenOf file room =
-    cond (leb (length (planText file)) room)
-    (record { refusal = 0; length = length (planText file) })
-    (record { refusal = 16; length = 0 })
+-- s is handed out into a buffer: the answer is its length if the buffer has room for it, else 16, "buffer shorter", and no length
+unfoldable pub handed : List ℕ → (room : ℕ) → Written
+handed s room = cond (leb (length s) room) (record { refusal = 0; length = length s }) (record { refusal = 16; length = 0 })
 
--- the text from the buffer's start and no byte behind it changed; nothing at all if there is no room
+-- s from the buffer's start and no byte behind it changed; nothing at all if there is no room
+unfoldable pub handedInto : List ℕ → List ℕ → List ℕ
+handedInto s out = cond (leb (length s) (length out)) (pasted out 0 s) out
+
+-- so the text of a policy file
+unfoldable pub writtenOf : List ℕ → (room : ℕ) → Written
+writtenOf file room = handed (planText file) room
+
 unfoldable pub bufferAfter : List ℕ → List ℕ → List ℕ
-bufferAfter file out = cond (leb (length (planText file)) (length out)) (pasted out 0 (planText file)) out
+bufferAfter file out = handedInto (planText file) out

@@ -7,8 +7,8 @@ ghost use lib.ListN.{length};
 ghost use Rattle.policy.specs.File.{nameOf};
 ghost use Rattle.text.specs.Decimal.{decimal};
 ghost use Rattle.text.specs.Listing.{space, unpadded, parentName, names, numbers, line, lines, worded, listing};
-ghost use Rattle.text.specs.Answer.{writtenOf, bufferAfter};
-ghost use Rattle.text.specs.Put.{Put, Handed, Printable};
+ghost use Rattle.text.specs.Answer.{handed, handedInto, writtenOf, bufferAfter};
+ghost use Rattle.text.specs.Put.{Put, Printable};
 
 // The length of the text, or 16 and 0 when the buffer has no room for it.
 #[repr(C)]
@@ -161,7 +161,7 @@ fn write_text(policy: &[u8], plan: Plan, out: &mut [u8]) -> usize
 
 // Writes a text from the buffer's start on. A buffer that has no room for it stays as it was.
 fn hand_out(text: &[u8], out: &mut [u8]) -> Written
-    ensures { λ r. ⌜ Handed (now (text .entry)) (now (out .entry)) (now (out .exit)) r ⌝ }
+    ensures { λ r. ⌜ (r ≡ handed (now (text .entry)) (length (now (out .entry)))) × (now (out .exit) ≡ handedInto (now (text .entry)) (now (out .entry))) ⌝ }
 {
     if out.len() < text.len() {
         return Written {

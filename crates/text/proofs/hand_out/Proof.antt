@@ -1,21 +1,15 @@
--- `text::hand_out` meets its contract: with room and with none, the refusal, the length and the buffer are as promised.
-use mathlib.Core.Path.{refl}
+-- `text::hand_out` meets its contract: with room and with none.
 use native.Mathlib.Omega.{arith}
 use borrow.Author.Needs.{needs}
+use Rattle.text.proofs.Answers.{handed-none, handed-room, left-none, left-room}
 use Rattle.text.proofs.hand_out.Statement.{statement}
 use Rattle.text.proofs.hand_out.Tie as tie
 
 returns : tie.Need-returns
-returns c = record {
-  room = λ h. (omega arith, omega arith, absurd (omega arith));
-  none = λ h. (refl, refl, refl);
-}
+returns c = (handed-none _ _ (omega arith), left-none _ _ (omega arith))
 
 returns-2 : tie.Need-returns-2
-returns-2 c = record {
-  room = λ h. (refl, refl, c .before .before .put-bytes .ensures .written);
-  none = λ h. (omega arith, omega arith, absurd (omega arith));
-}
+returns-2 c = (handed-room _ _ (omega arith), left-room _ _ (omega arith) (c .before .before .put-bytes .ensures .written))
 
 put-bytes-requires : tie.Need-put-bytes-requires
 put-bytes-requires c κs = search needs

@@ -3,7 +3,7 @@ use mathlib.Core.Path.{sym, ap, _∙_}
 use native.Mathlib.Omega.{arith}
 use lib.ListN.{length}
 use Rattle.text.specs.Listing.{planText}
-use Rattle.text.proofs.Answers.{text-length, text-taken, text-handed, handed-written, handed-left}
+use Rattle.text.proofs.Answers.{text-length, text-taken, text-written, text-left}
 use Rattle.text.proofs.Plans.{plan-printable, text-suffices}
 use borrow.Author.Needs.{needs}
 use Rattle.text.proofs.plan_text.Statement.{statement}
@@ -28,8 +28,9 @@ returns c =
     let w = h .before .before .before .before in
     let p = w .before .before .plan-policy .ensures in
     let a = w .before .before .before .before .before .args in
-    let t = text-handed (a .policy .now) p (w .write-text .ensures) (h .hand-out .ensures) in
-    (handed-written (a .policy .now) (a .out .now) t, handed-left (a .policy .now) (a .out .now) t)
+    let file = a .policy .now in
+    let out = a .out .now in
+    (h .hand-out .ensures .0 ∙ text-written file p (w .write-text .ensures) out, h .hand-out .ensures .1 ∙ text-left file p (w .write-text .ensures) out)
 
 array-share-prefix-text : tie.Need-array-share-prefix-text
 array-share-prefix-text c =

@@ -1,9 +1,9 @@
 // The operations for C callers, each by the equation of the operation itself. A slice is passed as a pointer and a length.
+use buffers::Written;
 use planner::Plan;
 use planner::Weighed;
 use policy::Policy;
 use sha256::Digest;
-use text::Written;
 ghost use mathlib.Core.Path.{_≡_};
 ghost use lib.ListN.{length};
 ghost use Rattle.sha256.specs.Digest.{sha256Of};

@@ -1,15 +1,16 @@
 -- Laws of byte strings: their comparison, and the bytes at a place.
-use Prim.Native.Nat.{ℕ, zero, suc, _+_, _≤_, _<_}
+use Prim.Native.Nat.{ℕ, zero, suc, _+_, _-_, _≤_, _<_}
 use mathlib.Core.Bool.{Bool, true, false, _&&_, false≢true}
-use mathlib.Core.List.{List, [], _∷_}
-use mathlib.Core.Path.{_≡_, refl, _∙_}
+use mathlib.Core.List.{List, [], _∷_, _++_}
+use mathlib.Core.Path.{_≡_, refl, ap, _∙_}
 use native.Mathlib.Nat.{add-assoc}
 use native.Mathlib.Numerals.{add-one}
 use native.Mathlib.Omega.{arith}
 use lib.Dec.{eqb}
-use lib.ListN.{length, getD, drop, drop-of-length-le}
-use lib.Seq.{drop-cons}
+use lib.ListN.{length, getD, take, drop, replicate, drop-of-length-le, length-drop}
+use lib.Seq.{drop-cons, length-take-le}
 use borrow.Author.Tests.{eq-eqb, eqb-true}
+use Rattle.lists.proofs.Pasted.{copied, zero-filled-all}
 use Rattle.format.specs.Bytes.{bytesAt, sameBytes}
 
 -- a string from place i on is its byte there and the string from the next place on
@@ -98,3 +99,13 @@ module _ (s : List ℕ) (at : ℕ) where
         on 6 (omega arith),
         on 7 (omega arith),
       )
+
+  -- a copy of n of them fills n places
+  pub part-fills : (n : ℕ) → at + n ≤ length s → {out : List ℕ}
+      → out ≡ take (length (take (at + n - at) (drop at s))) (take (at + n - at) (drop at s)) ++ drop (length (take (at + n - at) (drop at s))) (replicate n 0)
+      → out ≡ bytesAt s at n
+  part-fills n h e =
+      let p : List ℕ = take (at + n - at) (drop at s) in
+      let width : at + n - at ≡ n = omega arith in
+      let size : length p ≡ n = rw width (length-take-le n (drop at s) (omega (arith, length-drop at s))) in
+      e ∙ copied n p (omega arith) ∙ zero-filled-all n p size ∙ ap (λ (k : ℕ). take k (drop at s)) width

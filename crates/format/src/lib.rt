@@ -1,4 +1,4 @@
-// What issuer and desk share of the file forms: marks, names, two-byte numbers.
+// What issuer and desk share of the file forms: marks, names, secrets, two-byte numbers.
 ghost use mathlib.Core.Path.{_≡_};
 ghost use Prim.Native.Nat.{_+_, _≤_, _<_};
 ghost use lib.ListN.{length};
@@ -114,6 +114,16 @@ pub fn read_name(s: &[u8], at: usize) -> [u8; 8]
         s[at + 6],
         s[at + 7],
     ]
+}
+
+// The secret that stands in `s` from `at` on.
+pub fn read_secret(s: &[u8], at: usize) -> [u8; 32]
+    requires { ⌜ at + 32 ≤ length (now s) ⌝ }
+    ensures { λ r. ⌜ r ≡ bytesAt (now (s .entry)) at 32 ⌝ }
+{
+    let mut secret = [0u8; 32];
+    bytes::copy(&s[at..at + 32], &mut secret);
+    secret
 }
 
 // The two-byte number that stands in `s` from `at` on.

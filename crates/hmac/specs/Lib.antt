@@ -1,2 +1,3 @@
 pub mod Hmac
 pub mod HmacAnswer
+pub mod Secrets

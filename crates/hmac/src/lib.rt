@@ -6,6 +6,7 @@ ghost use lib.ListN.{length};
 ghost use Rattle.lists.specs.Buffer.{zeroFilled};
 ghost use Rattle.hmac.specs.Hmac.{keyBlock, masked, hmac};
 ghost use Rattle.hmac.specs.HmacAnswer.{hmacOf};
+ghost use Rattle.hmac.specs.Secrets.{F, childSecret, labelKey};
 
 // Bytes of a block, with zeros behind them.
 fn zero_filled(bytes: &[u8]) -> [u8; 64]
@@ -51,10 +52,24 @@ pub fn hmac_bytes(key: &[u8], message: &[u8]) -> [u8; 32]
 }
 
 // F: HMAC of an 8-byte name under a 32-byte secret.
-pub fn prf(secret: [u8; 32], name: [u8; 8]) -> [u8; 32]
-    ensures { λ r. ⌜ r ≡ hmac secret name ⌝ }
+fn prf(secret: [u8; 32], name: [u8; 8]) -> [u8; 32]
+    ensures { λ r. ⌜ r ≡ F secret name ⌝ }
 {
     hmac_bytes(&secret, &name)
+}
+
+// The secret of the child `name`, from its parent's.
+pub fn child_secret(parent: [u8; 32], name: [u8; 8]) -> [u8; 32]
+    ensures { λ r. ⌜ r ≡ childSecret parent name ⌝ }
+{
+    prf(parent, name)
+}
+
+// The key of the label `name`, from its own secret.
+pub fn label_key(secret: [u8; 32], name: [u8; 8]) -> [u8; 32]
+    ensures { λ r. ⌜ r ≡ labelKey secret name ⌝ }
+{
+    prf(secret, name)
 }
 
 // HMAC of a key and a message of at most 65,536 bytes each; longer ones are refused.

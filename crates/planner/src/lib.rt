@@ -5,6 +5,7 @@ ghost use Prim.Native.Nat.{_+_, _≤_, _<_};
 ghost use lib.ListN.{length};
 ghost use Rattle.lists.specs.Tables.{filled};
 ghost use Rattle.order.specs.Table.{atOrBelow};
+ghost use Rattle.policy.specs.Whole.{orderOf};
 ghost use Rattle.trees.specs.Weights.{total};
 ghost use Rattle.weights.specs.Tables.{entries, Rowed, Falls};
 ghost use Rattle.planner.specs.Planned.{planned, planOf};
@@ -121,15 +122,24 @@ fn plan_labels(refusal: u8, labels: usize, counts: &[u16; 64], rows: &[[bool; 64
     }
 }
 
-// The plan of a policy, or the number of its refusal.
-pub fn plan_policy(policy: &[u8]) -> Plan
-    ensures { λ r. ⌜ r ≡ planOf (now (policy .entry)) ⌝ }
+// The plan of a policy, or the number of its refusal, and the order of its labels into `rows`.
+pub fn plan_order(policy: &[u8], rows: &mut [[bool; 64]; 64]) -> Plan
+    ensures { λ r. ⌜ (r ≡ planOf (now (policy .entry))) × (now (rows .exit) ≡ orderOf (now (policy .entry))) ⌝ }
 {
     let read = policy::read_policy(policy);
     let counts = read.counts;
     let over = read.over;
-    let rows = order::order_table(read.labels, read.pairs, over);
-    plan_labels(read.refusal, read.labels, &counts, &rows)
+    let table = order::order_table(read.labels, read.pairs, over);
+    *rows = table;
+    plan_labels(read.refusal, read.labels, &counts, &table)
+}
+
+// The plan of a policy, or the number of its refusal.
+pub fn plan_policy(policy: &[u8]) -> Plan
+    ensures { λ r. ⌜ r ≡ planOf (now (policy .entry)) ⌝ }
+{
+    let mut rows = [[false; 64]; 64];
+    plan_order(policy, &mut rows)
 }
 
 // The answer with a refusal.

@@ -11,7 +11,6 @@ use lib.Dec.{leb, ltb}
 use lib.ListN.{length, length-take, length-drop}
 use Rattle.format.proofs.Bytes.{same-refl, same-eq, differ}
 use Rattle.format.proofs.Form.{well-formed-iff}
-use Rattle.format.proofs.Search.{not-found, found-at}
 use Rattle.format.specs.Bytes.{sameBytes}
 use Rattle.format.specs.Form.{NameForm}
 use Rattle.format.specs.Marks.{LB, OV}
@@ -19,7 +18,8 @@ use Rattle.format.specs.Names.{wellFormed}
 use Rattle.format.specs.declared.Found.the-variants.{At, Nothing}
 use Rattle.format.specs.declared.Found.{Found}
 use Rattle.order.specs.declared.Pair.{Pair}
-use Rattle.policy.specs.File.{nameOf, countOf, pairAt, isNamed, labelNamed}
+use Rattle.policy.proofs.Names.{name-at, name-none, name-found, name-new}
+use Rattle.policy.specs.File.{nameOf, countOf, pairAt, labelNamed}
 use Rattle.policy.specs.Record.{unlessFound, labelKind, overKind, markedKind, kindAt}
 use Rattle.policy.specs.Rows.{bytesLeft, markOf, WholeLabel, WholeOver, NoMark, single-byte, other-mark, CutShort, short-label, short-over, TooMany, label-65, over-513, LabelFits, OverFits, NoSuchLabel, RefusedAt, row-2, row-3, row-4, row-5, row-6, row-7, row-8, row-9, LabelAt, OverAt}
 use Rattle.policy.specs.declared.Kind.the-variants.{Label, Over, End, Refused}
@@ -62,34 +62,6 @@ mark-room file labels pairs a b e = omega (arith, simp (length-take, length-drop
 over-not-label : sameBytes OV LB ≡ false
 unfolding sameBytes
 over-not-label = refl
-
--- what a search for a label's name among the earlier ones says
-module _ (file name : List ℕ) (labels : ℕ) where
-  name-at : (k : ℕ) → labelNamed file labels name ≡ At k → (k < labels) × (nameOf file k ≡ name)
-  unfolding labelNamed isNamed
-  name-at k h =
-      let at = found-at (isNamed file name) labels 0 k h in
-      (omega (arith, at .below), same-eq (nameOf file k) name (at .here))
-
-  name-none : labelNamed file labels name ≡ Nothing → (i : ℕ) → i < labels → nameOf file i ≡ name → ⊥
-  unfolding labelNamed isNamed
-  name-none h i l e =
-      let no = not-found (isNamed file name) labels 0 h i (omega arith) (omega arith) in
-      false≢true (sym no ∙ rw e (same-refl name))
-
-  name-found : (i : ℕ) → i < labels → nameOf file i ≡ name → (k : ℕ) × (labelNamed file labels name ≡ At k)
-  name-found i l e = go (labelNamed file labels name) refl
-    where
-      go : (f : Found) → labelNamed file labels name ≡ f → (k : ℕ) × (labelNamed file labels name ≡ At k)
-      go (At k) h = (k, h)
-      go Nothing h = absurd (name-none h i l e)
-
-  name-new : ((i : ℕ) → i < labels → nameOf file i ≡ name → ⊥) → labelNamed file labels name ≡ Nothing
-  name-new new = go (labelNamed file labels name) refl
-    where
-      go : (f : Found) → labelNamed file labels name ≡ f → f ≡ Nothing
-      go (At k) h = let at = name-at k h in absurd (new k (at .0) (at .1))
-      go Nothing h = refl
 
 -- From words to the answer: the tests come out as the words say.
 module _ (file : List ℕ) (labels pairs : ℕ) where

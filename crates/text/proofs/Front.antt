@@ -17,7 +17,7 @@ use Rattle.planner.proofs.WorkedTables.{planned-agree}
 use Rattle.planner.specs.Planned.{testOf, planned, planOf}
 use Rattle.planner.specs.declared.Plan.{Plan}
 use Rattle.text.specs.Listing.{parentName, names, line, lines, listing, planText}
-use Rattle.text.specs.Put.{Printable}
+use Rattle.text.specs.Printable.{Printable}
 use Rattle.text.proofs.Plans.{plan-printable}
 
 module _ (a b : List ℕ) (same : Agree a b) where

@@ -15,7 +15,7 @@ use Rattle.weights.proofs.Reading.{plan-early}
 use Rattle.planner.specs.Planned.{testOf, planned, planOf}
 use Rattle.planner.specs.declared.Plan.{Plan}
 use Rattle.text.specs.Listing.{dash, unpadded, parentName, line, lines, totalWord, refusedWord, lastLine, refusedLine, listing, planText}
-use Rattle.text.specs.Put.{Printable}
+use Rattle.text.specs.Printable.{Printable}
 use Rattle.text.proofs.Names.{unpadded-short}
 use Rattle.text.proofs.Digits.{decimal-short}
 use Rattle.text.proofs.Parts.{worded-length, names-length, numbers-length, line-length}

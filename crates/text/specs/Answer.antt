@@ -1,22 +1,11 @@
 -- What `plan_text` answers and leaves in the lent buffer.
 use Prim.Native.Nat.{ℕ}
-use mathlib.Core.Bool.{cond}
 use mathlib.Core.List.{List}
-use lib.Dec.{leb}
-use lib.ListN.{length}
-use Rattle.lists.specs.Buffer.{pasted}
+use Rattle.buffers.specs.Handed.{handed, handedInto}
+use Rattle.buffers.specs.declared.Written.{Written}
 use Rattle.text.specs.Listing.{planText}
-use Rattle.text.specs.declared.Written.{Written}
 
--- s is handed out into a buffer: the answer is its length if the buffer has room for it, else 16, "buffer shorter", and no length
-unfoldable pub handed : List ℕ → (room : ℕ) → Written
-handed s room = cond (leb (length s) room) (record { refusal = 0; length = length s }) (record { refusal = 16; length = 0 })
-
--- s from the buffer's start and no byte behind it changed; nothing at all if there is no room
-unfoldable pub handedInto : List ℕ → List ℕ → List ℕ
-handedInto s out = cond (leb (length s) (length out)) (pasted out 0 s) out
-
--- so the text of a policy file
+-- the text of a policy file is handed out
 unfoldable pub writtenOf : List ℕ → (room : ℕ) → Written
 writtenOf file room = handed (planText file) room
 

@@ -1,4 +1,4 @@
 pub mod Decimal
 pub mod Listing
-pub mod Put
+pub mod Printable
 pub mod Answer

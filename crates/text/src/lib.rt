@@ -1,31 +1,16 @@
 // The plan as text.
+use buffers::Written;
 use planner::Plan;
 ghost use mathlib.Core.Path.{_≡_};
 ghost use Prim.Native.Nat.{_+_, _*_, _≤_, _<_};
 ghost use mathlib.Core.List.{_++_};
 ghost use lib.ListN.{length};
+ghost use Rattle.buffers.specs.Put.{Put};
 ghost use Rattle.policy.specs.File.{nameOf};
 ghost use Rattle.text.specs.Decimal.{decimal};
 ghost use Rattle.text.specs.Listing.{space, unpadded, parentName, names, numbers, line, lines, worded, listing};
-ghost use Rattle.text.specs.Answer.{handed, handedInto, writtenOf, bufferAfter};
-ghost use Rattle.text.specs.Put.{Put, Printable};
-
-// The length of the text, or 16 and 0 when the buffer has no room for it.
-#[repr(C)]
-pub struct Written {
-    pub refusal: u8,
-    pub length: usize,
-}
-
-// Writes bytes from `at` on, and answers the place behind them.
-fn put_bytes(out: &mut [u8], at: usize, bytes: &[u8]) -> usize
-    requires { ⌜ at + length (now bytes) ≤ length (now out) ⌝ }
-    ensures { λ r. ⌜ Put (now (out .entry)) (now (out .exit)) at (now (bytes .entry)) r ⌝ }
-{
-    let end = at + bytes.len();
-    bytes::copy(bytes, &mut out[at..end]);
-    end
-}
+ghost use Rattle.text.specs.Answer.{writtenOf, bufferAfter};
+ghost use Rattle.text.specs.Printable.{Printable};
 
 // How many bytes stand before a name's first space.
 fn unpadded_length(name: &[u8]) -> usize
@@ -48,7 +33,7 @@ fn put_name(policy: &[u8], m: usize, out: &mut [u8], at: usize) -> usize
 {
     let name = format::read_name(policy, 12 * m + 2);
     let end = unpadded_length(&name);
-    put_bytes(out, at, &name[..end])
+    buffers::put_bytes(out, at, &name[..end])
 }
 
 // Writes a number in decimal.
@@ -65,7 +50,7 @@ fn put_decimal(out: &mut [u8], at: usize, x: u32) -> usize
         i -= 1;
     }
     digits[i] = 48 + rest as u8;
-    put_bytes(out, at, &digits[i..])
+    buffers::put_bytes(out, at, &digits[i..])
 }
 
 // Writes a space and a number.
@@ -73,7 +58,7 @@ fn put_number(out: &mut [u8], at: usize, x: u32) -> usize
     requires { ⌜ at + length (space ++ decimal x) ≤ length (now out) ⌝ }
     ensures { λ r. ⌜ Put (now (out .entry)) (now (out .exit)) at (space ++ decimal x) r ⌝ }
 {
-    let behind = put_bytes(out, at, b" ");
+    let behind = buffers::put_bytes(out, at, b" ");
     put_decimal(out, behind, x)
 }
 
@@ -82,9 +67,9 @@ fn put_worded(out: &mut [u8], at: usize, word: &[u8], x: u32) -> usize
     requires { ⌜ at + length (worded (now word) x) ≤ length (now out) ⌝ }
     ensures { λ r. ⌜ Put (now (out .entry)) (now (out .exit)) at (worded (now (word .entry)) x) r ⌝ }
 {
-    let behind = put_bytes(out, at, word);
+    let behind = buffers::put_bytes(out, at, word);
     let end = put_number(out, behind, x);
-    put_bytes(out, end, b"\n")
+    buffers::put_bytes(out, end, b"\n")
 }
 
 // Writes the name of label `m`'s parent, `-` for the top.
@@ -93,7 +78,7 @@ fn put_parent(policy: &[u8], plan: Plan, m: usize, out: &mut [u8], at: usize) ->
     ensures { λ r. ⌜ Put (now (out .entry)) (now (out .exit)) at (parentName (now (policy .entry)) plan m) r ⌝ }
 {
     if m == 0 {
-        return put_bytes(out, at, b"-");
+        return buffers::put_bytes(out, at, b"-");
     }
     let parent = plan.parents[m] as usize;
     put_name(policy, parent, out, at)
@@ -105,7 +90,7 @@ fn put_names(policy: &[u8], plan: Plan, m: usize, out: &mut [u8], at: usize) -> 
     ensures { λ r. ⌜ Put (now (out .entry)) (now (out .exit)) at (names (now (policy .entry)) plan m) r ⌝ }
 {
     let behind = put_name(policy, m, out, at);
-    let parent = put_bytes(out, behind, b" ");
+    let parent = buffers::put_bytes(out, behind, b" ");
     put_parent(policy, plan, m, out, parent)
 }
 
@@ -129,7 +114,7 @@ fn put_line(policy: &[u8], plan: Plan, m: usize, out: &mut [u8], at: usize) -> u
     let count = format::read_number(policy, 12 * m + 10) as u32;
     let behind = put_names(policy, plan, m, out, at);
     let line_end = put_numbers(out, behind, weight, size, count);
-    put_bytes(out, line_end, b"\n")
+    buffers::put_bytes(out, line_end, b"\n")
 }
 
 // Writes the lines of all labels from the buffer's start on.
@@ -159,23 +144,6 @@ fn write_text(policy: &[u8], plan: Plan, out: &mut [u8]) -> usize
     put_worded(out, behind, b"TOTAL", plan.total)
 }
 
-// Writes a text from the buffer's start on. A buffer that has no room for it stays as it was.
-fn hand_out(text: &[u8], out: &mut [u8]) -> Written
-    ensures { λ r. ⌜ (r ≡ handed (now (text .entry)) (length (now (out .entry)))) × (now (out .exit) ≡ handedInto (now (text .entry)) (now (out .entry))) ⌝ }
-{
-    if out.len() < text.len() {
-        return Written {
-            refusal: 16,
-            length: 0,
-        };
-    }
-    put_bytes(out, 0, text);
-    Written {
-        refusal: 0,
-        length: text.len(),
-    }
-}
-
 // Writes the text of a policy file from the buffer's start on, or nothing if it has no room for it.
 // No text has more than 3,281 bytes.
 pub fn plan_text(policy: &[u8], out: &mut [u8]) -> Written
@@ -184,5 +152,5 @@ pub fn plan_text(policy: &[u8], out: &mut [u8]) -> Written
     let plan = planner::plan_policy(policy);
     let mut text = [0u8; 4096];
     let length = write_text(policy, plan, &mut text);
-    hand_out(&text[..length], out)
+    buffers::hand_out(&text[..length], out)
 }

@@ -149,7 +149,7 @@ pub fn choose(labels: usize, counts: &[u16; 64], rows: &[[bool; 64]; 64]) -> Cho
 }
 
 // Whether label `m` is in the smallest set of label `l`: at or below it, and the top or under a parent that is not.
-fn in_smallest(rows: &[[bool; 64]; 64], parents: &[u8; 64], l: usize, m: usize) -> bool
+pub fn in_smallest(rows: &[[bool; 64]; 64], parents: &[u8; 64], l: usize, m: usize) -> bool
     requires { ⌜ (l < 64) × (m < 64) × (entries (now parents) m < 64) ⌝ }
     ensures { λ r. ⌜ r ≡ inSmallest (atOrBelow (now (rows .entry))) (entries (now (parents .entry))) l m ⌝ }
 {

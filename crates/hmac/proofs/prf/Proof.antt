@@ -1,5 +1,6 @@
 -- `hmac::prf` meets its contract.
 use borrow.Author.Needs.{needs}
+use Rattle.hmac.specs.Secrets.{F}
 use Rattle.hmac.proofs.prf.Statement.{statement}
 use Rattle.hmac.proofs.prf.Tie as tie
 
@@ -13,6 +14,7 @@ hmac-bytes-requires : tie.Need-hmac-bytes-requires
 hmac-bytes-requires c κs = search needs
 
 returns : tie.Need-returns
+unfolding F
 returns c = c .hmac-bytes .ensures
 
 pub prf-spec : {M : Type 1} → statement M

@@ -1,34 +1,13 @@
--- `planner::plan_policy` meets its contract: the plan of what is read is that of the file.
-use mathlib.Core.Path.{_∙_}
+-- `planner::plan_policy` meets its contract: the plan is that of `plan_order`.
 use borrow.Author.Needs.{needs}
-use denote.Ref.{now}
-use Rattle.order.proofs.Exact.{table-falls}
-use Rattle.policy.specs.Whole.{policyOf}
-use Rattle.planner.proofs.WorkedTables.{read-few, read-order, read-plan}
 use Rattle.planner.proofs.plan_policy.Statement.{statement}
 use Rattle.planner.proofs.plan_policy.Tie as tie
 
-read-policy-requires : tie.Need-read-policy-requires
-read-policy-requires c κs = search needs
-
-order-table-requires : tie.Need-order-table-requires
-order-table-requires c κs = search needs
-
-plan-labels-requires : tie.Need-plan-labels-requires
-plan-labels-requires c κs =
-    let o = c .before .before in
-    let r = o .before .before .before in
-    (read-few (now (r .before .before .args .policy)) (r .read-policy .ensures), rw (o .order-table .ensures) (table-falls _ _))
+plan-order-requires : tie.Need-plan-order-requires
+plan-order-requires c κs = search needs
 
 returns : tie.Need-returns
-unfolding policyOf
-returns c =
-    let o = c .before .before .before in
-    let r = o .before .before .before in
-    let file = now (r .before .before .args .policy) in
-    let same = r .read-policy .ensures in
-    c .plan-labels .ensures ∙ rw (read-order file same (o .order-table .ensures), same) (read-plan file)
+returns c = c .plan-order .ensures .0
 
 pub plan-policy-spec : {M : Type 1} → statement M
-plan-policy-spec =
-    tie.close (tie.spec read-policy-requires order-table-requires plan-labels-requires returns)
+plan-policy-spec = tie.close (tie.spec plan-order-requires returns)

@@ -1,7 +1,7 @@
 -- `text::put_line` meets its contract.
 use native.Mathlib.Omega.{arith}
 use Rattle.policy.specs.File.{countOf}
-use Rattle.text.proofs.Writes.{put-next}
+use Rattle.buffers.proofs.Writes.{put-next}
 use Rattle.text.proofs.Parts.{line-parts, line-length}
 use borrow.Author.Needs.{needs}
 use Rattle.text.proofs.put_line.Statement.{statement}

@@ -6,8 +6,8 @@ use native.Mathlib.Omega.{arith}
 use lib.ListN.{length}
 use borrow.Author.Needs.{needs}
 use Rattle.text.specs.Listing.{lines}
-use Rattle.text.specs.Put.{Put}
-use Rattle.text.proofs.Writes.{put-next, put-none}
+use Rattle.buffers.specs.Put.{Put}
+use Rattle.buffers.proofs.Writes.{put-next, put-none}
 use Rattle.text.proofs.Parts.{lines-fit}
 use Rattle.text.proofs.put_lines.Statement.{statement}
 use Rattle.text.proofs.put_lines.Tie as tie

@@ -1,7 +1,7 @@
 -- `text::put_names` meets its contract.
 use native.Mathlib.Omega.{arith}
 use Rattle.text.specs.Listing.{names}
-use Rattle.text.proofs.Writes.{put-next}
+use Rattle.buffers.proofs.Writes.{put-next}
 use Rattle.text.proofs.Parts.{names-length}
 use borrow.Author.Needs.{needs}
 use Rattle.text.proofs.put_names.Statement.{statement}

@@ -1,5 +1,5 @@
 -- `text::put_number` meets its contract.
-use Rattle.text.proofs.Writes.{put-next}
+use Rattle.buffers.proofs.Writes.{put-next}
 use borrow.Author.Needs.{needs}
 use Rattle.text.proofs.put_number.Statement.{statement}
 use Rattle.text.proofs.put_number.Tie as tie

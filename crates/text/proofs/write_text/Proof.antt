@@ -1,7 +1,7 @@
 -- `text::write_text` meets its contract.
 use native.Mathlib.Omega.{arith}
 use lib.ListN.{length-append}
-use Rattle.text.proofs.Writes.{put-next}
+use Rattle.buffers.proofs.Writes.{put-next}
 use Rattle.text.proofs.Parts.{listing-refused, listing-accepted}
 use borrow.Author.Needs.{needs}
 use Rattle.text.proofs.write_text.Statement.{statement}

@@ -7,7 +7,7 @@ use lib.ListN.{length, take, drop, length-append, length-drop}
 use lib.Seq.{take-at, length-take-le}
 use Rattle.lists.proofs.Pasted.{pasted-adjacent}
 use Rattle.lists.specs.Buffer.{pasted}
-use Rattle.text.specs.Put.{Put}
+use Rattle.buffers.specs.Put.{Put}
 
 -- a write leaves the buffer's length
 pub put-length : {d e s : List ℕ} {at r : ℕ} → Put d e at s r → length e ≡ length d

@@ -1,9 +1,9 @@
--- `text::put_bytes` meets its contract.
+-- `buffers::put_bytes` meets its contract.
 use mathlib.Core.Path.{refl}
 use borrow.Author.Needs.{needs}
 use Rattle.lists.proofs.Pasted.{part-copied}
-use Rattle.text.proofs.put_bytes.Statement.{statement}
-use Rattle.text.proofs.put_bytes.Tie as tie
+use Rattle.buffers.proofs.put_bytes.Statement.{statement}
+use Rattle.buffers.proofs.put_bytes.Tie as tie
 
 add-end : tie.Need-add-end
 add-end c = search needs

@@ -1,9 +1,9 @@
--- `text::hand_out` meets its contract: with room and with none.
+-- `buffers::hand_out` meets its contract: with room and with none.
 use native.Mathlib.Omega.{arith}
 use borrow.Author.Needs.{needs}
-use Rattle.text.proofs.Answers.{handed-none, handed-room, left-none, left-room}
-use Rattle.text.proofs.hand_out.Statement.{statement}
-use Rattle.text.proofs.hand_out.Tie as tie
+use Rattle.buffers.proofs.Handed.{handed-none, handed-room, left-none, left-room}
+use Rattle.buffers.proofs.hand_out.Statement.{statement}
+use Rattle.buffers.proofs.hand_out.Tie as tie
 
 returns : tie.Need-returns
 returns c = (handed-none _ _ (omega arith), left-none _ _ (omega arith))

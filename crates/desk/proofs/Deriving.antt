@@ -1,0 +1,58 @@
+-- What `derive` knows of an envelope that it has read, and the answer that it makes for a record.
+use Prim.Native.Nat.{ℕ, _+_, _<_}
+use mathlib.Core.List.{List}
+use mathlib.Core.Path.{_≡_, sym, ap, subst, _∙_}
+use native.Mathlib.Omega.{arith}
+use Rattle.format.specs.declared.Found.the-variants.{At, Nothing}
+use Rattle.format.specs.declared.Found.{Found}
+use Rattle.hmac.specs.Secrets.{labelKey}
+use Rattle.desk.proofs.Asked.{asked-at, asked-read}
+use Rattle.desk.proofs.Lawful.{located, falling}
+use Rattle.desk.proofs.Meaning.{name-at}
+use Rattle.desk.proofs.Starts.{located-fewer, falling-fewer}
+use Rattle.desk.specs.Derive.{walkTo, refusedDerived, derivedAt, onFound, recordAsked, derivedOf}
+use Rattle.desk.specs.File.{nameIn}
+use Rattle.desk.specs.Reads.{Located, Falling}
+use Rattle.desk.specs.Whole.{contentsOf, recordsOf, Accepted}
+use Rattle.desk.specs.declared.Contents.{Contents}
+use Rattle.desk.specs.declared.Walk.{Walk}
+
+-- the key and the count of applications, from the way to the record's secret
+pub derived-made : (file : List ℕ) (k : ℕ) (walk : Walk) (key : List ℕ) → walk ≡ walkTo file k → key ≡ labelKey (walk .secret) (nameIn file k)
+    → record { refusal = 0; key = key; applications = walk .steps + 1 } ≡ derivedAt file k
+unfolding derivedAt
+derived-made file k walk key w e =
+    ap (λ (x : List ℕ). record { refusal = 0; key = x; applications = walk .steps + 1 }) e
+    ∙ ap (λ (v : Walk). record { refusal = 0; key = labelKey (v .secret) (nameIn file k); applications = v .steps + 1 }) w
+
+-- an envelope that is read: its table, and the search among its records
+module _ (file : List ℕ) (read : Contents) (same : read ≡ contentsOf file) (none : read .refusal ≡ 0) where
+  accepted-read : Accepted file
+  accepted-read = sym (ap (λ (c : Contents). c .refusal) same) ∙ none
+
+  pub read-located : Located file (read .starts) (read .records)
+  read-located = subst (λ (c : Contents). Located file (c .starts) (c .records)) (sym same) (located file accepted-read)
+
+  module _ (name : List ℕ) (found : Found) (search : found ≡ recordAsked file (read .records) name) where
+    asked : recordAsked file (recordsOf file) name ≡ found
+    asked = sym (search ∙ ap (λ (c : Contents). recordAsked file (c .records) name) same)
+
+    answer : derivedOf file name ≡ onFound file found
+    answer = asked-read file name accepted-read found asked
+
+    pub none-answer : found ≡ Nothing → derivedOf file name ≡ refusedDerived 20
+    none-answer e = answer ∙ ap (onFound file) e
+
+    -- a record that was found
+    module _ (k : ℕ) (at : found ≡ At k) where
+      below : k < recordsOf file
+      below = name-at file name (recordsOf file) k (asked-at file (recordsOf file) name k (asked ∙ at)) .0
+
+      pub found-located : Located file (read .starts) (k + 1)
+      found-located = located-fewer (omega (arith, below, ap (λ (c : Contents). c .records) same)) read-located
+
+      pub found-falling : Falling file (k + 1)
+      found-falling = falling-fewer (omega (arith, below)) (falling file accepted-read)
+
+      pub found-answer : derivedOf file name ≡ derivedAt file k
+      found-answer = answer ∙ ap (onFound file) at

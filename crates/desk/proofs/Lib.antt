@@ -1,0 +1,14 @@
+pub mod Meaning
+pub mod Passing
+pub mod Answered
+pub mod Verdict
+pub mod Asked
+pub mod Demand1
+pub mod Lawful
+pub mod Starts
+pub mod RecordTests
+pub mod Reading
+pub mod Walks
+pub mod Deriving
+pub mod Paths
+pub mod Samples

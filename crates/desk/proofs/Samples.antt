@@ -1,0 +1,86 @@
+-- Small envelopes worked out: each number of the table, envelopes that are read, and a key at the end of a chain.
+use Prim.Native.Nat.{ℕ}
+use mathlib.Core.List.{List, [], _∷_, _++_, map}
+use mathlib.Core.Path.{_≡_, refl}
+use lib.ListN.{replicate, take}
+use Rattle.format.specs.Bytes.{sameBytes}
+use Rattle.format.specs.Marks.{EN, KS, KD}
+use Rattle.format.specs.Names.{classOf, padding, formed, someNoSpace, wellFormed}
+use Rattle.format.specs.Search.{firstFrom}
+use Rattle.hmac.specs.Secrets.{childSecret, labelKey}
+use Rattle.desk.specs.Derive.{refusedDerived, walked, walkTo, derivedAt, recordAsked, derivedOf}
+use Rattle.desk.specs.File.{headName, startOf, isHeld, nameIn, secretIn, placeIn, carries, recordNamed}
+use Rattle.desk.specs.Record.{nameRefusal, heldKind, underKind, markedKind, kindAt}
+use Rattle.desk.specs.Whole.{headRefusal, accepted, scanFrom, contentsOf, refusalOf}
+use Rattle.desk.specs.declared.Derived.{Derived}
+use Rattle.lists.specs.Tables.{listed}
+
+-- a name of one letter, a header for an account at a label, a record that holds a secret, and one under a place
+abbrev name : ℕ → List ℕ
+name letter = letter ∷ replicate 7 32
+
+abbrev gap : List ℕ
+gap = 65 ∷ 32 ∷ 65 ∷ replicate 5 32
+
+abbrev header : ℕ → List ℕ → List ℕ
+header account label = EN ++ (0 ∷ account ∷ label)
+
+abbrev secret : ℕ → List ℕ
+secret byte = replicate 32 byte
+
+abbrev holds : List ℕ → ℕ → List ℕ
+holds label byte = KS ++ label ++ secret byte
+
+abbrev stands : List ℕ → ℕ → List ℕ
+stands label place = KD ++ label ++ (place ∷ [])
+
+-- account 1 at label A: the header alone, one secret, A over B over C, and the same with a secret of its own for D before B and C
+abbrev bare : List ℕ
+bare = header 1 (name 65)
+
+abbrev single : List ℕ
+single = bare ++ holds (name 65) 7
+
+abbrev chain : List ℕ
+chain = single ++ stands (name 66) 0 ++ stands (name 67) 1
+
+abbrev both : List ℕ
+both = single ++ holds (name 68) 9 ++ stands (name 66) 0 ++ stands (name 67) 2
+
+-- 17: 11 bytes, another mark, account 0
+-- 18: no record, a first `KD`, a first name unlike the header's
+-- 2: a single byte left, `EN` as a later mark; 3: a `KS` and a `KD` cut short
+-- 6: a name with a space before a letter, at a first `KD` as well; 7: a name twice; 19: a record's own place, and a later one
+-- 0: one secret, a chain of two, and two secrets with a chain of two
+pub refusals : map refusalOf
+    (take 11 bare ∷ (KS ++ (0 ∷ 1 ∷ name 65)) ∷ header 0 (name 65)
+    ∷ bare ∷ (bare ++ stands (name 65) 0) ∷ (bare ++ holds (name 66) 7)
+    ∷ (bare ++ (75 ∷ [])) ∷ (single ++ bare) ∷ take 53 single ∷ take 64 (single ++ stands (name 66) 0)
+    ∷ (bare ++ holds gap 7) ∷ (bare ++ stands gap 0) ∷ (single ++ stands (name 65) 0)
+    ∷ (single ++ stands (name 66) 1) ∷ (single ++ stands (name 66) 2 ++ stands (name 67) 0) ∷ single ∷ chain ∷ both ∷ [])
+    ≡ 17 ∷ 17 ∷ 17 ∷ 18 ∷ 18 ∷ 18 ∷ 2 ∷ 2 ∷ 3 ∷ 3 ∷ 6 ∷ 6 ∷ 7 ∷ 19 ∷ 19 ∷ 0 ∷ 0 ∷ 0 ∷ []
+unfolding sameBytes classOf padding formed someNoSpace wellFormed firstFrom headName startOf isHeld nameIn placeIn carries recordNamed nameRefusal heldKind underKind markedKind kindAt headRefusal accepted scanFrom contentsOf
+refusals = refl
+
+-- the number of records, and where each starts
+pub starts : map contentsOf (chain ∷ both ∷ [])
+    ≡ record { refusal = 0; records = 3; starts = 12 ∷ 54 ∷ 65 ∷ replicate 61 0 }
+    ∷ record { refusal = 0; records = 4; starts = 12 ∷ 54 ∷ 96 ∷ 107 ∷ replicate 60 0 } ∷ []
+unfolding sameBytes classOf padding formed someNoSpace wellFormed firstFrom headName startOf isHeld nameIn placeIn carries recordNamed nameRefusal heldKind underKind markedKind kindAt headRefusal accepted scanFrom contentsOf listed
+starts = refl
+
+-- A after 1 application, B after 2, C after 3; 20 for a name that is not there and for 7 bytes; with an envelope that is refused its number
+-- comes before 20
+abbrev ask : List ℕ → List (List ℕ) → List Derived
+ask file names = map (derivedOf file) names
+
+abbrev secretB : List ℕ
+secretB = childSecret (secret 7) (name 66)
+
+pub asked : ask chain (name 65 ∷ name 66 ∷ name 67 ∷ name 68 ∷ take 7 (name 65) ∷ []) ++ ask bare (name 68 ∷ [])
+    ≡ record { refusal = 0; key = labelKey (secret 7) (name 65); applications = 1 }
+    ∷ record { refusal = 0; key = labelKey secretB (name 66); applications = 2 }
+    ∷ record { refusal = 0; key = labelKey (childSecret secretB (name 67)) (name 67); applications = 3 }
+    ∷ refusedDerived 20 ∷ refusedDerived 20 ∷ refusedDerived 18 ∷ []
+unfolding sameBytes classOf padding formed someNoSpace wellFormed firstFrom headName startOf isHeld nameIn secretIn placeIn carries recordNamed nameRefusal heldKind underKind markedKind kindAt headRefusal accepted scanFrom contentsOf walked walkTo derivedAt recordAsked derivedOf
+asked = refl

@@ -1,0 +1,63 @@
+-- `desk::derive_record` meets its contract: the key is made from the secret that the walk leads to, one application behind its steps.
+use Prim.Native.Nat.{_+_}
+use mathlib.Core.Path.{ap, _∙_}
+use native.Mathlib.Omega.{arith}
+use borrow.Author.Needs.{needs}
+use denote.Ref.{now}
+use lib.ListN.{getD}
+use Rattle.hmac.specs.Secrets.{labelKey}
+use Rattle.desk.proofs.Deriving.{derived-made}
+use Rattle.desk.proofs.Starts.{room, name-there, located-fewer, falling-fewer}
+use Rattle.desk.proofs.derive_record.Statement.{statement}
+use Rattle.desk.proofs.derive_record.Tie as tie
+
+walk-to-requires : tie.Need-walk-to-requires
+walk-to-requires c κs = (located-fewer (omega arith) (c .before .pre .0), falling-fewer (omega arith) (c .before .pre .1))
+
+add-applications : tie.Need-add-applications
+add-applications c = omega (arith, c .before .before .walk-to .ensures .1, c .before .before .before .before .pre .0 .few)
+
+mul-at : tie.Need-mul-at
+mul-at c = omega (arith, c .before .before .before .before .pre .0 .few)
+
+element-copy-out-at : tie.Need-element-copy-out-at
+element-copy-out-at c = omega (arith, c .before .before .before .before .pre .0 .few)
+
+add-read-name : tie.Need-add-read-name
+add-read-name c =
+    let start = c .before .before .before .before .before in
+    let k = start .args .k in
+    omega (arith, room (now (start .args .envelope)) (now (start .args .starts)) (k + 1) (start .pre .0) k (omega arith))
+
+read-name-requires : tie.Need-read-name-requires
+read-name-requires c κs =
+    let start = c .before .before .before .before .before in
+    let k = start .args .k in
+    omega (arith, room (now (start .args .envelope)) (now (start .args .starts)) (k + 1) (start .pre .0) k (omega arith))
+
+label-key-requires : tie.Need-label-key-requires
+label-key-requires c κs = search needs
+
+returns : tie.Need-returns
+returns c =
+    let start = c .before .before .before .before .before .before .before in
+    let file = now (start .args .envelope) in
+    let k = start .args .k in
+    let walk = c .before .before .before .before .before .walk-to in
+    let begins = start .pre .0 .begins k (omega arith) in
+    let name = c .before .read-name .ensures ∙ name-there file k (getD (now (start .args .starts)) k 0) begins in
+    derived-made file k (walk .result) (c .label-key .result) (walk .ensures .0)
+    (c .label-key .ensures ∙ ap (labelKey (walk .result .secret)) name)
+
+pub derive-record-spec : {M : Type 1} → statement M
+derive-record-spec =
+    tie.close
+    (tie.spec
+    walk-to-requires
+    add-applications
+    mul-at
+    element-copy-out-at
+    add-read-name
+    read-name-requires
+    label-key-requires
+    returns)

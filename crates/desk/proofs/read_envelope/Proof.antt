@@ -1,0 +1,40 @@
+-- `desk::read_envelope` meets its contract: the header's refusal, or what the records say.
+use mathlib.Core.Path.{sym, ap, _∙_}
+use native.Mathlib.Omega.{arith}
+use borrow.Author.Needs.{needs}
+use denote.Ref.{now}
+use Rattle.desk.proofs.Reading.{head-long, contents-refused, contents-read}
+use Rattle.desk.proofs.read_envelope.Statement.{statement}
+use Rattle.desk.proofs.read_envelope.Tie as tie
+use Rattle.desk.specs.Whole.{refused}
+
+head-refusal-requires : tie.Need-head-refusal-requires
+head-refusal-requires c κs = search needs
+
+refused-contents-requires : tie.Need-refused-contents-requires
+refused-contents-requires c κs = search needs
+
+returns : tie.Need-returns
+returns c =
+    let file = now (c .before .before .before .before .args .envelope) in
+    let number = c .before .before .head-refusal .ensures in
+    c .refused-contents .ensures ∙ ap refused number ∙ sym (contents-refused file (omega (arith, number)))
+
+read-records-requires : tie.Need-read-records-requires
+read-records-requires c κs =
+    head-long (now (c .before .before .before .args .envelope)) (sym (c .before .head-refusal .ensures) ∙ c .if1 .left)
+
+returns-2 : tie.Need-returns-2
+returns-2 c =
+    let file = now (c .before .before .before .before .args .envelope) in
+    c .read-records .ensures ∙ sym (contents-read file (sym (c .before .before .head-refusal .ensures) ∙ c .before .if1 .left))
+
+pub read-envelope-spec : {M : Type 1} → statement M
+read-envelope-spec =
+    tie.close
+    (tie.spec
+    head-refusal-requires
+    refused-contents-requires
+    returns
+    read-records-requires
+    returns-2)

@@ -1,0 +1,6 @@
+pub mod File
+pub mod Record
+pub mod Whole
+pub mod Derive
+pub mod Reads
+pub mod Rows

@@ -1,0 +1,12 @@
+pub mod Secrets
+pub mod Places
+pub mod Under
+pub mod Stands
+pub mod OneRecord
+pub mod Written
+pub mod Records
+pub mod Read
+pub mod Steps
+pub mod Opens
+pub mod Held
+pub mod Length

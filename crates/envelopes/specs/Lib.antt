@@ -1,0 +1,3 @@
+pub mod Secrets
+pub mod Envelope
+pub mod Labels

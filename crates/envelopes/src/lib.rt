@@ -1,0 +1,1 @@
+// What is written for an account, over any labels: definitions and theorems.

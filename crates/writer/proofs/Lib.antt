@@ -1,0 +1,3 @@
+pub mod Parts
+pub mod Hanging
+pub mod Recorded

@@ -1,6 +1,6 @@
--- Demand 1 for policy files and tree files: "Every policy file, tree file .. be it empty, cut short or noise, is either read or refused under
--- a number from the list. A refusal yields zeros beside the number". The rows of 01's table stand in words in the policy crate's
--- specs/Rows.antt and in the planner crate's specs/TreeRows.antt.
+-- Demand 1 for policy files and tree files: "Every policy file, tree file or key envelope, be it empty, cut short or noise, is either read or
+-- refused under a number from the list. A refusal yields zeros beside the number and changes nothing in lent memory." The rows of 01's table
+-- stand in words in the policy crate's specs/Rows.antt and in the planner crate's specs/TreeRows.antt.
 use Prim.Native.Nat.{ℕ, _≤_, _<_}
 use mathlib.Core.List.{List}
 use mathlib.Core.Logic.{_↔_, _⊎_}

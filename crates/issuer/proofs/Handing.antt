@@ -1,0 +1,70 @@
+-- The envelope of an account, as it is handed out: no longer than the buffer of its own, and the front of it.
+use Prim.Native.Nat.{ℕ, zero, suc, _+_, _*_, _≤_}
+use mathlib.Core.Bool.{Bool, true, false, cond}
+use mathlib.Core.List.{List, [], _∷_, _++_}
+use mathlib.Core.Path.{_≡_, ap, _∙_}
+use native.Mathlib.Omega.{arith}
+use lib.ListN.{length, take, drop, length-append, length-take}
+use Rattle.buffers.proofs.Writes.{put-front}
+use Rattle.buffers.specs.Handed.{handed, handedInto}
+use Rattle.buffers.specs.Put.{Put}
+use Rattle.buffers.specs.declared.Written.{Written}
+use Rattle.envelopes.proofs.Secrets.{secret-length}
+use Rattle.envelopes.specs.Envelope.{heldRecord, underRecord, header, placeBelow, recordOf, recordsBelow, envelopeOf}
+use Rattle.envelopes.specs.Secrets.{secretOf}
+use Rattle.policy.specs.File.{nameOf}
+use Rattle.trees.specs.Weights.{inSmallest}
+use Rattle.issuer.specs.Issue.{issued}
+
+module _ (policy : List ℕ) (le : ℕ → ℕ → Bool) (parent : ℕ → ℕ) (root : List ℕ) (l : ℕ) where
+  abbrev records : ℕ → List ℕ
+  records = recordsBelow (nameOf policy) le parent root l
+
+  name-upto : (m : ℕ) → length (nameOf policy m) ≤ 8
+  unfolding nameOf
+  name-upto m = omega (arith, length-take 8 (drop (12 * m + 2) policy))
+
+  module _ (whole : length root ≡ 32) where
+    -- a record has at most 42 bytes
+    record-upto : (m : ℕ) → length (recordOf (nameOf policy) le parent root l m) ≤ 42
+    unfolding recordOf
+    record-upto m = go (inSmallest le parent l m)
+      where
+        secret : List ℕ
+        secret = secretOf (nameOf policy) parent root m
+
+        place : ℕ
+        place = placeBelow le l (parent m)
+
+        go : (held : Bool) → length (cond held (heldRecord (nameOf policy m) secret) (underRecord (nameOf policy m) place)) ≤ 42
+        go true = omega (arith, length-append (nameOf policy m) secret, name-upto m, secret-length (nameOf policy) parent root whole m)
+        go false = omega (arith, length-append (nameOf policy m) (place ∷ []), name-upto m)
+
+    records-upto : (m : ℕ) → length (records m) ≤ 42 * m
+    unfolding recordsBelow
+    records-upto zero = omega arith
+    records-upto (suc m) = omega (arith, length-append (records m) (cond (le m l) one []), records-upto m, go (le m l))
+      where
+        one : List ℕ
+        one = recordOf (nameOf policy) le parent root l m
+
+        go : (b : Bool) → length (cond b one []) ≤ 42
+        go true = record-upto m
+        go false = omega arith
+
+    -- 2,700 bytes are enough for the records of 64 labels
+    pub envelope-upto : (labels account : ℕ) → labels ≤ 64 → length (envelopeOf (nameOf policy) le parent root l labels account) ≤ 2_700
+    unfolding envelopeOf
+    envelope-upto labels account few =
+        omega (arith, length-append (header account (nameOf policy l)) (records labels), name-upto l, records-upto labels)
+
+-- what stands at the front of a buffer, handed out
+module _ {d e s : List ℕ} {r : ℕ} (put : Put d e 0 s r) where
+  pub front-length : r ≡ length (take r e)
+  front-length = omega (arith, put .behind, ap length (put-front put))
+
+  pub front-issued : (room : ℕ) {w : Written} → w ≡ handed (take r e) room → issued w ≡ issued (handed s room)
+  front-issued room h = ap issued (h ∙ ap (λ (t : List ℕ). handed t room) (put-front put))
+
+  pub front-left : (out : List ℕ) {after : List ℕ} → after ≡ handedInto (take r e) out → after ≡ handedInto s out
+  front-left out h = h ∙ ap (λ (t : List ℕ). handedInto t out) (put-front put)

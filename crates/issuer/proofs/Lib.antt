@@ -1,0 +1,5 @@
+pub mod Asked
+pub mod Answers
+pub mod Zeros
+pub mod Tables
+pub mod Handing

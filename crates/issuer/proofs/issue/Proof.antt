@@ -1,0 +1,142 @@
+-- `issuer::issue` meets its contract: each refusal in its turn, with the buffer as it was, then the envelope of the label asked for.
+use Prim.Native.Nat.{ℕ}
+use mathlib.Core.List.{List}
+use mathlib.Core.Path.{sym, ap, _∙_}
+use native.Mathlib.Omega.{arith}
+use lib.ListN.{length}
+use borrow.Author.Needs.{needs}
+use Rattle.buffers.specs.Handed.{handed, handedInto}
+use Rattle.issuer.specs.Issue.{refusedIssue, issued}
+use Rattle.issuer.proofs.Answers.{account-whole, issue-policy, asked-13, number-refuses, issued-at, buffer-at}
+use Rattle.issuer.proofs.Tables.{plan-number, plan-within, plan-accepted, plan-hung, asked-told, told-below, told-within, envelope-made}
+use Rattle.issuer.proofs.issue.Statement.{statement}
+use Rattle.issuer.proofs.issue.Tie as tie
+
+returns : tie.Need-returns
+returns c =
+    let p = c .before .before .before in
+    let a = p .before .before .before .before .before .before .args in
+    let out = a .envelope .now in
+    let number = plan-number (a .policy .now) (p .plan-order .ensures .0) in
+    let refused = issue-policy (a .policy .now) (a .name .now) (a .account) (a .root .now) (omega arith) in
+    (c .refuse-issue .ensures ∙ ap refusedIssue number ∙ sym (refused .issues (length out)), sym (refused .leaves out))
+
+returns-2 : tie.Need-returns-2
+returns-2 c =
+    let n = c .before .before in
+    let l = n .before .before in
+    let f = l .before .before in
+    let p = f .before .before .before in
+    let a = p .before .before .before .before .before .before .args in
+    let out = a .envelope .now in
+    let same = p .plan-order .ensures .0 in
+    let ok = plan-accepted (a .policy .now) same (f .before .if1 .left) in
+    let at = asked-told (a .policy .now) same (a .name .now) (f .asked-label .ensures) (l .l .given .1) in
+    let refused = number-refuses (a .policy .now) (a .name .now) (a .account) (a .root .now) ok at (sym (n .account-refusal .ensures)) (omega arith) in
+    (c .refuse-issue2 .ensures ∙ sym (refused .issues (length out)), sym (refused .leaves out))
+
+returns-3 : tie.Need-returns-3
+returns-3 c =
+    let i = c .before .before in
+    let s = i .before .before .before .before in
+    let n = s .before .before .before in
+    let l = n .before .before in
+    let f = l .before .before in
+    let p = f .before .before .before in
+    let a = p .before .before .before .before .before .before .args in
+    let out = a .envelope .now in
+    let same = p .plan-order .ensures .0 in
+    let ok = plan-accepted (a .policy .now) same (f .before .if1 .left) in
+    let at = asked-told (a .policy .now) same (a .name .now) (f .asked-label .ensures) (l .l .given .1) in
+    let none = sym (n .account-refusal .ensures) ∙ s .before .before .if2 .left in
+    let whole = account-whole (a .policy .now) (a .root .now) (a .account) (l .l .given .0 .0) none in
+    let made = envelope-made (a .policy .now) same (a .root .now) whole (s .read-secret .ensures) (l .l .given .0 .0) (a .account) (p .plan-order .ensures .1) in (
+      i .issue-label .ensures .0
+      ∙ ap (λ (e : List ℕ). issued (handed e (length out))) made
+      ∙ sym (issued-at (a .policy .now) (a .name .now) (a .account) (a .root .now) ok at none (length out)),
+      i .issue-label .ensures .1
+      ∙ ap (λ (e : List ℕ). handedInto e out) made
+      ∙ sym (buffer-at (a .policy .now) (a .name .now) (a .account) (a .root .now) ok at none out),
+    )
+
+returns-4 : tie.Need-returns-4
+returns-4 c =
+    let f = c .before .before .before in
+    let p = f .before .before .before in
+    let a = p .before .before .before .before .before .before .args in
+    let out = a .envelope .now in
+    let same = p .plan-order .ensures .0 in
+    let ok = plan-accepted (a .policy .now) same (f .before .if1 .left) in
+    let none = asked-told (a .policy .now) same (a .name .now) (f .asked-label .ensures) (c .before .enum-told .given .1) in
+    let refused = asked-13 (a .policy .now) (a .name .now) (a .account) (a .root .now) ok none in
+    (c .refuse-issue3 .ensures ∙ sym (refused .issues (length out)), sym (refused .leaves out))
+
+plan-order-requires : tie.Need-plan-order-requires
+plan-order-requires c κs = search needs
+
+refuse-issue-requires : tie.Need-refuse-issue-requires
+refuse-issue-requires c κs = search needs
+
+asked-label-requires : tie.Need-asked-label-requires
+asked-label-requires c κs =
+    let p = c .before .before in
+    plan-within (p .before .before .before .before .before .before .args .policy .now) (p .plan-order .ensures .0)
+
+enum-known-l : tie.Need-enum-known-l
+enum-known-l c = search needs
+
+account-refusal-requires : tie.Need-account-refusal-requires
+account-refusal-requires c κs =
+    let l = c .before in
+    let f = l .before .before in
+    let p = f .before .before .before in
+    let a = p .before .before .before .before .before .before .args in
+    told-within (a .policy .now) (p .plan-order .ensures .0) (a .name .now) (f .asked-label .ensures) (l .l .given .1)
+
+refuse-issue-requires-2 : tie.Need-refuse-issue-requires-2
+refuse-issue-requires-2 c κs = search needs
+
+read-secret-requires : tie.Need-read-secret-requires
+read-secret-requires c κs =
+    let n = c .before .before in
+    let l = n .before .before in
+    let a = l .before .before .before .before .before .before .before .before .before .before .before .args in
+    omega (arith, account-whole (a .policy .now) (a .root .now) (a .account) (l .l .given .0 .0) (sym (n .account-refusal .ensures) ∙ c .before .if2 .left))
+
+issue-label-requires : tie.Need-issue-label-requires
+issue-label-requires c κs =
+    let l = c .before .before .before .before .before .before .before .before in
+    let f = l .before .before in
+    let p = f .before .before .before in
+    let a = p .before .before .before .before .before .before .args in
+    let same = p .plan-order .ensures .0 in
+    (plan-hung (a .policy .now) same (f .before .if1 .left), told-below (a .policy .now) same (a .name .now) (f .asked-label .ensures) (l .l .given .1))
+
+enum-told : tie.Need-enum-told
+enum-told c = search needs
+
+refuse-issue-requires-3 : tie.Need-refuse-issue-requires-3
+refuse-issue-requires-3 c κs = search needs
+
+same-length : tie.Need-same-length
+same-length c = search needs
+
+pub issue-spec : {M : Type 1} → statement M
+issue-spec =
+    tie.close
+    (tie.spec
+    plan-order-requires
+    refuse-issue-requires
+    returns
+    asked-label-requires
+    enum-known-l
+    account-refusal-requires
+    refuse-issue-requires-2
+    returns-2
+    read-secret-requires
+    issue-label-requires
+    enum-told
+    refuse-issue-requires-3
+    same-length
+    returns-3
+    returns-4)

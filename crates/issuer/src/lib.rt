@@ -1,0 +1,145 @@
+// The issuer's keys, and key envelopes written for accounts of a policy.
+use format::Found;
+ghost use mathlib.Core.Path.{_≡_};
+ghost use Prim.Native.Nat.{_+_, _*_, _≤_, _<_};
+ghost use lib.ListN.{length};
+ghost use Rattle.buffers.specs.Handed.{handed, handedInto};
+ghost use Rattle.order.specs.Table.{atOrBelow};
+ghost use Rattle.policy.specs.File.{nameOf};
+ghost use Rattle.weights.specs.Tables.{entries};
+ghost use Rattle.envelopes.specs.Envelope.{envelopeOf};
+ghost use Rattle.writer.specs.Asks.{Hung};
+ghost use Rattle.issuer.specs.Keys.{labelAsked, refusedKey, issuerKeyOf};
+ghost use Rattle.issuer.specs.Issue.{accountRefusal, refusedIssue, issued, issuedOf, bufferAfter};
+
+// A label's key; zeros with a refusal.
+#[repr(C)]
+pub struct IssuerKey {
+    pub refusal: u8,
+    pub key: [u8; 32],
+}
+
+// The length of the envelope written; 0 with a refusal.
+#[repr(C)]
+pub struct Issued {
+    pub refusal: u8,
+    pub length: usize,
+}
+
+// The label that has the name asked for; none if that has not 8 bytes.
+fn asked_label(policy: &[u8], labels: usize, name: &[u8]) -> Found
+    requires { ⌜ 12 * labels ≤ length (now policy) ⌝ }
+    ensures { λ r. ⌜ r ≡ labelAsked (now (policy .entry)) labels (now (name .entry)) ⌝ }
+{
+    if name.len() != 8 {
+        return Found::Nothing;
+    }
+    policy::find_name(policy, labels, format::read_name(name, 0))
+}
+
+// The answer of `issuer_key` with a refusal.
+fn refuse_key(number: u8) -> IssuerKey
+    ensures { λ r. ⌜ r ≡ refusedKey number ⌝ }
+{
+    IssuerKey {
+        refusal: number,
+        key: [0u8; 32],
+    }
+}
+
+// The issuer's own key for the label asked for.
+pub fn issuer_key(policy: &[u8], name: &[u8], root: &[u8]) -> IssuerKey
+    ensures { λ r. ⌜ r ≡ issuerKeyOf (now (policy .entry)) (now (name .entry)) (now (root .entry)) ⌝ }
+{
+    let plan = planner::plan_policy(policy);
+    if plan.refusal != 0 {
+        return refuse_key(plan.refusal);
+    }
+    match asked_label(policy, plan.labels, name) {
+        Found::At(l) => {
+            if root.len() != 32 {
+                return refuse_key(15);
+            }
+            let parents = plan.parents;
+            let secret = writer::secret_of(policy, &parents, format::read_secret(root, 0), l);
+            IssuerKey {
+                refusal: 0,
+                key: hmac::label_key(secret, format::read_name(policy, 12 * l + 2)),
+            }
+        }
+        Found::Nothing => refuse_key(13),
+    }
+}
+
+// The number that an account of label `l` or the root secret is refused under, 0 when they are not.
+fn account_refusal(policy: &[u8], l: usize, account: u32, root: &[u8]) -> u8
+    requires { ⌜ 12 * l + 12 ≤ length (now policy) ⌝ }
+    ensures { λ r. ⌜ r ≡ accountRefusal (now (policy .entry)) (now (root .entry)) account l ⌝ }
+{
+    if account == 0 {
+        return 14;
+    }
+    if (format::read_number(policy, 12 * l + 10) as u32) < account {
+        return 14;
+    }
+    if root.len() != 32 {
+        return 15;
+    }
+    0
+}
+
+// The answer of `issue` with a refusal.
+fn refuse_issue(number: u8) -> Issued
+    ensures { λ r. ⌜ r ≡ refusedIssue number ⌝ }
+{
+    Issued {
+        refusal: number,
+        length: 0,
+    }
+}
+
+// Hands out the envelope of an account at label `l`. No envelope has more than 2,700 bytes.
+fn issue_label(
+    policy: &[u8],
+    labels: usize,
+    rows: &[[bool; 64]; 64],
+    parents: &[u8; 64],
+    root: [u8; 32],
+    l: usize,
+    account: u32,
+    envelope: &mut [u8],
+) -> Issued
+    requires { ⌜ Hung (now policy) (now parents) labels × (l < labels) ⌝ }
+    ensures { λ r. ⌜ (r ≡ issued (handed (envelopeOf (nameOf (now (policy .entry))) (atOrBelow (now (rows .entry))) (entries (now (parents .entry))) root l labels account) (length (now (envelope .entry))))) × (now (envelope .exit) ≡ handedInto (envelopeOf (nameOf (now (policy .entry))) (atOrBelow (now (rows .entry))) (entries (now (parents .entry))) root l labels account) (now (envelope .entry))) ⌝ }
+{
+    let mut written = [0u8; 2700];
+    let length = writer::write_envelope(policy, labels, rows, parents, root, l, account, &mut written);
+    let answer = buffers::hand_out(&written[..length], envelope);
+    Issued {
+        refusal: answer.refusal,
+        length: answer.length,
+    }
+}
+
+// Writes the envelope of an account at the label asked for from the buffer's start on, or nothing if it is refused.
+pub fn issue(policy: &[u8], name: &[u8], account: u32, root: &[u8], envelope: &mut [u8]) -> Issued
+    ensures { λ r. ⌜ (r ≡ issuedOf (now (policy .entry)) (now (name .entry)) account (now (root .entry)) (length (now (envelope .entry)))) × (now (envelope .exit) ≡ bufferAfter (now (policy .entry)) (now (name .entry)) account (now (root .entry)) (now (envelope .entry))) ⌝ }
+{
+    let mut rows = [[false; 64]; 64];
+    let plan = planner::plan_order(policy, &mut rows);
+    if plan.refusal != 0 {
+        return refuse_issue(plan.refusal);
+    }
+    match asked_label(policy, plan.labels, name) {
+        Found::At(l) => {
+            let number = account_refusal(policy, l, account, root);
+            if number != 0 {
+                return refuse_issue(number);
+            }
+            let parents = plan.parents;
+            let secret = format::read_secret(root, 0);
+            issue_label(policy, plan.labels, &rows, &parents, secret, l, account, envelope)
+        }
+        Found::Nothing => refuse_issue(13),
+    }
+}

@@ -1,5 +1,8 @@
 // The operations for C callers, each by the equation of the operation itself. A slice is passed as a pointer and a length.
 use buffers::Written;
+use desk::Derived;
+use issuer::Issued;
+use issuer::IssuerKey;
 use planner::Plan;
 use planner::Weighed;
 use policy::Policy;
@@ -12,6 +15,9 @@ ghost use Rattle.policy.specs.Whole.{refusalOf, policyOf};
 ghost use Rattle.planner.specs.Planned.{planOf};
 ghost use Rattle.planner.specs.Weighing.{weighOf};
 ghost use Rattle.text.specs.Answer.{writtenOf, bufferAfter};
+ghost use Rattle.issuer.specs.Keys.{issuerKeyOf};
+ghost use Rattle.issuer.specs.Issue.{issuedOf, bufferAfter as envelopeAfter};
+ghost use Rattle.desk.specs.Derive.{derivedOf};
 ghost use Rattle.exports.specs.Rows.{rowsAfter};
 
 #[no_mangle]
@@ -69,4 +75,31 @@ pub extern "C" fn yendlowa_plan_text(policy: &[u8], out: &mut [u8]) -> Written
     ensures { λ r. ⌜ (r ≡ writtenOf (now (policy .entry)) (length (now (out .entry)))) × (now (out .exit) ≡ bufferAfter (now (policy .entry)) (now (out .entry))) ⌝ }
 {
     text::plan_text(policy, out)
+}
+
+#[no_mangle]
+pub extern "C" fn yendlowa_issuer_key(policy: &[u8], name: &[u8], root: &[u8]) -> IssuerKey
+    ensures { λ r. ⌜ r ≡ issuerKeyOf (now (policy .entry)) (now (name .entry)) (now (root .entry)) ⌝ }
+{
+    issuer::issuer_key(policy, name, root)
+}
+
+#[no_mangle]
+pub extern "C" fn yendlowa_issue(
+    policy: &[u8],
+    name: &[u8],
+    account: u32,
+    root: &[u8],
+    envelope: &mut [u8],
+) -> Issued
+    ensures { λ r. ⌜ (r ≡ issuedOf (now (policy .entry)) (now (name .entry)) account (now (root .entry)) (length (now (envelope .entry)))) × (now (envelope .exit) ≡ envelopeAfter (now (policy .entry)) (now (name .entry)) account (now (root .entry)) (now (envelope .entry))) ⌝ }
+{
+    issuer::issue(policy, name, account, root, envelope)
+}
+
+#[no_mangle]
+pub extern "C" fn yendlowa_derive(envelope: &[u8], name: &[u8]) -> Derived
+    ensures { λ r. ⌜ r ≡ derivedOf (now (envelope .entry)) (now (name .entry)) ⌝ }
+{
+    desk::derive(envelope, name)
 }

@@ -94,10 +94,43 @@ module _ (root : List ℕ) (whole : length root ≡ 32) where
 
 pub starred : AllHold starredRows
 unfolding sameBytes classOf padding formed someNoSpace wellFormed firstFrom someBelow everyBelow listed joined linked rowUpTo labelRow rowsBelow orderTable nameOf countOf pairAt isNamed labelNamed labelKind overKind markedKind kindAt isLowerOf isLower isPlaced atEnd scanFrom scanned pairsOf orderOf sum sumWhere select weighed weight inSmallest smallest labelKeys total takes best leastParent plan least heldWeight weightTable setSize sizeTable planned planOf treeWeighed parentIn hangsAt treeRefusal weighRefusal weighOf labelAsked accountRefusal askedRefusal issueRefusal issuedOf
-starred =
-    (refl, ((refl, refl), ((refl, refl), ((refl, refl), ((refl, refl), (refl, (refl, (refl,
-    (λ root room whole. refl, (λ root room whole. refl,
-    (λ root whole. opened root whole 2 1 (omega arith) (worked-E .itself) (omega (arith, worked-E .none)),
-    (λ root whole. opened root whole 3 2 (omega arith) (worked-E .below) (omega (arith, worked-E .one)),
-    (shut,
-    (refl, (refl, (refl, ((refl, refl), tt)))))))))))))))))
+starred = (
+  refl,
+  (
+    (refl, refl),
+    (
+      (refl, refl),
+      (
+        (refl, refl),
+        (
+          (refl, refl),
+          (
+            refl,
+            (
+              refl,
+              (
+                refl,
+                (
+                  λ root room whole. refl,
+                  (
+                    λ root room whole. refl,
+                    (
+                      λ root whole. opened root whole 2 1 (omega arith) (worked-E .itself) (omega (arith, worked-E .none)),
+                      (
+                        λ root whole. opened root whole 3 2 (omega arith) (worked-E .below) (omega (arith, worked-E .one)),
+                        (
+                          shut,
+                          (refl, (refl, (refl, ((refl, refl), tt)))),
+                        ),
+                      ),
+                    ),
+                  ),
+                ),
+              ),
+            ),
+          ),
+        ),
+      ),
+    ),
+  ),
+)

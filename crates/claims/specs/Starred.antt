@@ -85,7 +85,7 @@ Holds (refuses-account policy name account number) =
     (root : List ℕ) (room : ℕ) → length root ≡ 32 → issuedOf policy name account root room ≡ refusedIssue number
 Holds (opens policy name account asked applications) =
     (root : List ℕ) → length root ≡ 32 → derivedOf (envelopeAsked policy name account root) asked
-        ≡ record { refusal = 0; key = issuerKeyOf policy asked root .key; applications = applications }
+    ≡ record { refusal = 0; key = issuerKeyOf policy asked root .key; applications = applications }
 Holds (shuts policy name account asked number) =
     (root : List ℕ) → length root ≡ 32 → derivedOf (envelopeAsked policy name account root) asked ≡ refusedDerived number
 

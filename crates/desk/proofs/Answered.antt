@@ -7,10 +7,10 @@ use native.Mathlib.Decide.{decLt, ℕ-discrete}
 use native.Mathlib.Omega.{arith}
 use borrow.Author.Tests.{lt-ltb, le-ltb, eq-eqb, ne-eqb}
 use lib.ListN.{length}
-use Rattle.format.proofs.Bytes.{same-refl, differ}
+use Rattle.format.proofs.Bytes.{same-refl, same?, differ}
 use Rattle.format.specs.Bytes.{bytesAt}
 use Rattle.format.specs.Marks.{EN}
-use Rattle.desk.proofs.Meaning.{Means, is-end, is-refused, is-held, is-under, same?, meaning, kind-of}
+use Rattle.desk.proofs.Meaning.{Means, is-end, is-refused, is-held, is-under, meaning, kind-of}
 use Rattle.desk.proofs.Passing.{records-bound}
 use Rattle.desk.specs.File.{accountIn}
 use Rattle.desk.specs.Rows.{NoHeader, under-12, other-mark, account-0, Header, RecordAt, held, under, Passes, start, next, Answered, at-start, at-record, read}

@@ -1,29 +1,25 @@
--- What `derive` knows of an envelope that it has read, and the answer that it makes for a record.
+-- What `derive` knows of an envelope that it has read.
 use Prim.Native.Nat.{ℕ, _+_, _<_}
 use mathlib.Core.List.{List}
 use mathlib.Core.Path.{_≡_, sym, ap, subst, _∙_}
 use native.Mathlib.Omega.{arith}
 use Rattle.format.specs.declared.Found.the-variants.{At, Nothing}
 use Rattle.format.specs.declared.Found.{Found}
-use Rattle.hmac.specs.Secrets.{labelKey}
-use Rattle.desk.proofs.Asked.{asked-at, asked-read}
+use Rattle.desk.proofs.Asked.{asked-at, asked-refused, asked-read}
 use Rattle.desk.proofs.Lawful.{located, falling}
 use Rattle.desk.proofs.Meaning.{name-at}
 use Rattle.desk.proofs.Starts.{located-fewer, falling-fewer}
-use Rattle.desk.specs.Derive.{walkTo, refusedDerived, derivedAt, onFound, recordAsked, derivedOf}
-use Rattle.desk.specs.File.{nameIn}
+use Rattle.desk.specs.Derive.{refusedDerived, derivedAt, onFound, recordAsked, derivedOf}
 use Rattle.desk.specs.Reads.{Located, Falling}
 use Rattle.desk.specs.Whole.{contentsOf, recordsOf, Accepted}
 use Rattle.desk.specs.declared.Contents.{Contents}
-use Rattle.desk.specs.declared.Walk.{Walk}
 
--- the key and the count of applications, from the way to the record's secret
-pub derived-made : (file : List ℕ) (k : ℕ) (walk : Walk) (key : List ℕ) → walk ≡ walkTo file k → key ≡ labelKey (walk .secret) (nameIn file k)
-    → record { refusal = 0; key = key; applications = walk .steps + 1 } ≡ derivedAt file k
-unfolding derivedAt
-derived-made file k walk key w e =
-    ap (λ (x : List ℕ). record { refusal = 0; key = x; applications = walk .steps + 1 }) e
-    ∙ ap (λ (v : Walk). record { refusal = 0; key = labelKey (v .secret) (nameIn file k); applications = v .steps + 1 }) w
+-- an envelope that is refused
+pub refused-answer : (file name : List ℕ) (read : Contents) → read ≡ contentsOf file → 0 < read .refusal
+    → derivedOf file name ≡ refusedDerived (read .refusal)
+refused-answer file name read same some =
+    let number = ap (λ (c : Contents). c .refusal) same in
+    asked-refused file name (omega (arith, number)) ∙ ap refusedDerived (sym number)
 
 -- an envelope that is read: its table, and the search among its records
 module _ (file : List ℕ) (read : Contents) (same : read ≡ contentsOf file) (none : read .refusal ≡ 0) where
@@ -46,7 +42,7 @@ module _ (file : List ℕ) (read : Contents) (same : read ≡ contentsOf file) (
     -- a record that was found
     module _ (k : ℕ) (at : found ≡ At k) where
       below : k < recordsOf file
-      below = name-at file name (recordsOf file) k (asked-at file (recordsOf file) name k (asked ∙ at)) .0
+      below = name-at file name (recordsOf file) k (asked-at file (recordsOf file) name k (asked ∙ at)) .below
 
       pub found-located : Located file (read .starts) (k + 1)
       found-located = located-fewer (omega (arith, below, ap (λ (c : Contents). c .records) same)) read-located

@@ -1,6 +1,6 @@
 -- One record: what `kindAt` answers is what the rows of the table say in words.
 use Prim.Native.Nat.{ℕ, _≤_, _<_}
-use mathlib.Core.Bool.{Bool, true, false, cond, not, false≢true}
+use mathlib.Core.Bool.{Bool, true, false, cond, not}
 use mathlib.Core.List.{List}
 use mathlib.Core.Logic.{_↔_, _⊎_, inl, inr, _≢_}
 use mathlib.Core.Path.{_≡_, refl, sym, ap, _∙_}
@@ -8,9 +8,9 @@ use native.Mathlib.Decide.{decLe, decLt, ℕ-discrete}
 use native.Mathlib.Omega.{arith}
 use borrow.Author.Tests.{lt-ltb, le-ltb, le-leb, lt-leb, eq-eqb, ne-eqb}
 use lib.Dec.{leb}
-use Rattle.format.proofs.Bytes.{same-refl, same-eq, differ}
-use Rattle.format.proofs.Form.{well-formed-iff}
-use Rattle.format.proofs.Search.{not-found, found-at}
+use Rattle.format.proofs.Bytes.{same-refl, same-true, same?, differ}
+use Rattle.format.proofs.Form.{well-formed-iff, form?, malformed-false}
+use Rattle.format.proofs.Named.{NamedAt, named-at, named-none, named-found, named-new}
 use Rattle.format.specs.Bytes.{sameBytes}
 use Rattle.format.specs.Form.{NameForm}
 use Rattle.format.specs.Marks.{KS, KD}
@@ -30,32 +30,6 @@ pub data Means (file : List ℕ) (k : ℕ) : Kind → Type 0 where
   is-held : WholeHeld file k → Named file k → (k ≡ 0 → nameIn file k ≡ headName file) → Means file k Held
   is-under : WholeUnder file k → Named file k → 0 < k → placeIn file k < k → Means file k (Under (placeIn file k))
 
--- two byte strings are the same or not, and a name has its form or not
-same-true : (a b : List ℕ) → a ≡ b → sameBytes a b ≡ true
-same-true a b e = rw e (same-refl b)
-
-pub same? : (a b : List ℕ) → Dec (a ≡ b)
-same? a b = go (sameBytes a b) refl
-  where
-    go : (t : Bool) → sameBytes a b ≡ t → Dec (a ≡ b)
-    go true e = yes (same-eq a b e)
-    go false e = no (λ same. false≢true (sym e ∙ same-true a b same))
-
-form? : (name : List ℕ) → Dec (NameForm name)
-form? name = go (wellFormed name) refl
-  where
-    go : (t : Bool) → wellFormed name ≡ t → Dec (NameForm name)
-    go true e = yes (well-formed-iff name .0 e)
-    go false e = no (λ form. false≢true (sym e ∙ well-formed-iff name .1 form))
-
--- a name without the form fails the test
-malformed-false : (name : List ℕ) → (NameForm name → ⊥) → wellFormed name ≡ false
-malformed-false name n = go (wellFormed name) refl
-  where
-    go : (t : Bool) → wellFormed name ≡ t → t ≡ false
-    go true e = absurd (n (well-formed-iff name .0 e))
-    go false e = refl
-
 -- the two marks differ
 pub under-not-held : sameBytes KD KS ≡ false
 unfolding sameBytes
@@ -63,34 +37,21 @@ under-not-held = refl
 
 -- what a search for a name among the first n records says
 module _ (file name : List ℕ) (n : ℕ) where
-  pub name-at : (k : ℕ) → recordNamed file n name ≡ At k → (k < n) × (nameIn file k ≡ name) × ((i : ℕ) → i < k → nameIn file i ≢ name)
+  pub name-at : (k : ℕ) → recordNamed file n name ≡ At k → NamedAt (nameIn file) name n k
   unfolding recordNamed carries
-  name-at k h =
-      let at = found-at (carries file name) n 0 k h in (
-        omega (arith, at .below),
-        same-eq (nameIn file k) name (at .here),
-        λ i l e. false≢true (sym (at .before i (omega arith) l) ∙ same-true (nameIn file i) name e),
-      )
+  name-at = named-at (carries file name) (nameIn file) name (λ i. refl) n
 
   pub name-none : recordNamed file n name ≡ Nothing → (i : ℕ) → i < n → nameIn file i ≢ name
   unfolding recordNamed carries
-  name-none h i l e =
-      let no = not-found (carries file name) n 0 h i (omega arith) (omega arith) in
-      false≢true (sym no ∙ same-true (nameIn file i) name e)
+  name-none = named-none (carries file name) (nameIn file) name (λ i. refl) n
 
   name-found : (i : ℕ) → i < n → nameIn file i ≡ name → (k : ℕ) × (recordNamed file n name ≡ At k)
-  name-found i l e = go (recordNamed file n name) refl
-    where
-      go : (f : Found) → recordNamed file n name ≡ f → (k : ℕ) × (recordNamed file n name ≡ At k)
-      go (At k) h = (k, h)
-      go Nothing h = absurd (name-none h i l e)
+  unfolding recordNamed carries
+  name-found = named-found (carries file name) (nameIn file) name (λ i. refl) n
 
   pub name-new : ((i : ℕ) → i < n → nameIn file i ≢ name) → recordNamed file n name ≡ Nothing
-  name-new new = go (recordNamed file n name) refl
-    where
-      go : (f : Found) → recordNamed file n name ≡ f → f ≡ Nothing
-      go (At k) h = let at = name-at k h in absurd (new k (at .0) (at .1))
-      go Nothing h = refl
+  unfolding recordNamed carries
+  name-new = named-new (carries file name) (nameIn file) name (λ i. refl) n
 
 -- From words to the answer: the tests come out as the words say.
 module _ (file : List ℕ) (k : ℕ) where
@@ -211,7 +172,7 @@ module _ (file : List ℕ) (k : ℕ) where
       go (yes fits) (no bad) f e = no-row (row-6 record { record-at = w; fits = fits; malformed = bad })
       go (yes fits) (yes form) (At i) e =
           let at = name-at file (nameIn file k) k i e in
-          no-row (row-7 record { record-at = w; fits = fits; formed = form; earlier = i; before = at .0; carried = at .1 })
+          no-row (row-7 record { record-at = w; fits = fits; formed = form; earlier = i; before = at .below; carried = at .here })
       go (yes fits) (yes form) Nothing e =
           on (record { fits = fits; formed = form; new = name-none file (nameIn file k) k e })
 

@@ -66,16 +66,16 @@ module _ (file name : List ℕ) where
       let at = name-at file name (recordsOf file) k (asked-at file (recordsOf file) name k e) in
       record {
         place = k;
-        below = at .0;
-        carries = at .1;
-        first = at .2;
+        below = at .below;
+        carries = at .here;
+        first = at .first;
         steps = walkTo file k .steps;
         secret = walkTo file k .secret;
-        path = walk-path file ok k (at .0);
+        path = walk-path file ok k (at .below);
         no-refusal = refl;
-        key = ap (labelKey (walkTo file k .secret)) (at .1);
+        key = ap (labelKey (walkTo file k .secret)) (at .here);
         applications = refl;
-        few = applications-bound file ok k (at .0);
+        few = applications-bound file ok k (at .below);
       }
 
   pub applications-path : derivedOf file name .refusal ≡ 0 → DerivedBy file name (derivedOf file name)
@@ -94,8 +94,8 @@ module _ (file name : List ℕ) where
       go : (f : Found) → recordNamed file (recordsOf file) name ≡ f → f ≡ At (r .place)
       go (At i) e =
           let at = name-at file name (recordsOf file) i e in
-          let less : i < r .place → ⊥ = λ l. r .first i l (at .1) in
-          let more : r .place < i → ⊥ = λ l. at .2 (r .place) l (r .carries) in
+          let less : i < r .place → ⊥ = λ l. r .first i l (at .here) in
+          let more : r .place < i → ⊥ = λ l. at .first (r .place) l (r .carries) in
           ap At (omega arith)
       go Nothing e = absurd (name-none file name (recordsOf file) e (r .place) (r .below) (r .carries))
 

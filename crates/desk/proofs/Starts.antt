@@ -36,13 +36,13 @@ module _ (file : List ℕ) (k at : ℕ) (here : at ≡ startOf file k) where
   unfolding isHeld
   held-there = mark-there KS
 
-  pub name-there : bytesAt file (at + 2) 8 ≡ nameIn file k
+  pub name-there : {read : List ℕ} → read ≡ bytesAt file (at + 2) 8 → read ≡ nameIn file k
   unfolding nameIn
-  name-there = rw here
+  name-there e = e ∙ rw here
 
-  pub secret-there : bytesAt file (at + 10) 32 ≡ secretIn file k
+  pub secret-there : {read : List ℕ} → read ≡ bytesAt file (at + 10) 32 → read ≡ secretIn file k
   unfolding secretIn
-  secret-there = rw here
+  secret-there e = e ∙ rw here
 
   pub place-there : getD file (at + 10) 0 ≡ placeIn file k
   unfolding placeIn
@@ -52,7 +52,7 @@ module _ (file : List ℕ) (k at : ℕ) (here : at ≡ startOf file k) where
   pub head-compared : {name head : List ℕ} → name ≡ bytesAt file (at + 2) 8 → head ≡ bytesAt file 4 8
       → sameBytes name head ≡ sameBytes (nameIn file k) (headName file)
   unfolding headName
-  head-compared n h = ap₂ sameBytes (n ∙ name-there) h
+  head-compared n h = ap₂ sameBytes (name-there n) h
 
 -- a record whose start was read from a table
 module _ (file starts : List ℕ) (records : ℕ) (table : Located file starts records) (k : ℕ) (l : k < records) where
@@ -66,7 +66,7 @@ module _ (file starts : List ℕ) (records : ℕ) (table : Located file starts r
   pub name-compared : (name read : List ℕ) → read ≡ bytesAt file (getD starts k 0 + 2) 8 → carries file name k ≡ sameBytes read name
   unfolding carries
   name-compared name read e =
-      ap (λ (n : List ℕ). sameBytes n name) (sym (e ∙ name-there file k (getD starts k 0) (table .begins k l)))
+      ap (λ (n : List ℕ). sameBytes n name) (sym (name-there file k (getD starts k 0) (table .begins k l) e))
 
 -- fewer records
 pub located-fewer : {file starts : List ℕ} {m n : ℕ} → m ≤ n → Located file starts n → Located file starts m

@@ -1,10 +1,9 @@
 -- Laws of the way to a record's secret, where places fall.
-use Prim.Native.Nat.{ℕ, zero, suc, _+_, _≤_, _<_}
+use Prim.Native.Nat.{ℕ, zero, suc, _≤_, _<_}
 use mathlib.Core.Bool.{Bool, true, false, cond}
 use mathlib.Core.List.{List}
 use mathlib.Core.Path.{_≡_, refl, sym, ap, _∙_}
 use native.Mathlib.Omega.{arith}
-use Rattle.hmac.specs.Secrets.{childSecret}
 use Rattle.desk.specs.Derive.{heldWalk, stepDown, walked, walkTo}
 use Rattle.desk.specs.File.{isHeld, nameIn, placeIn}
 use Rattle.desk.specs.Reads.{Falling}
@@ -18,7 +17,8 @@ module _ (file : List ℕ) (n k : ℕ) where
 
   walked-down : isHeld file k ≡ false → walked (suc n) file k ≡ stepDown (walked n file (placeIn file k)) (nameIn file k)
   unfolding walked
-  walked-down e = rw e
+  walked-down e =
+      ap (λ (held : Bool). cond held (heldWalk file k) (stepDown (walked n file (placeIn file k)) (nameIn file k))) e
 
 -- a path has no more steps than are counted
 walked-steps : (file : List ℕ) (n k : ℕ) → walked n file k .steps ≤ n
@@ -80,12 +80,3 @@ module _ (file : List ℕ) (records : ℕ) (f : Falling file records) where
       let p = f .falls (suc k) l e in
       walked-down file k (suc k) e
       ∙ ap (λ (w : Walk). stepDown w (nameIn file (suc k))) (walked-enough k (placeIn file (suc k)) (omega arith) (omega arith))
-
-  -- the same from a walk to its place, whatever that was read as, and the child's secret
-  pub walk-made : (k : ℕ) → k < records → isHeld file k ≡ false → (above : Walk) (place : ℕ) (secret : List ℕ)
-      → above ≡ walkTo file place → place ≡ placeIn file k → secret ≡ childSecret (above .secret) (nameIn file k)
-      → record { secret = secret; steps = above .steps + 1 } ≡ walkTo file k
-  walk-made k l e above place secret a p s =
-      ap (λ (x : List ℕ). record { secret = x; steps = above .steps + 1 }) s
-      ∙ ap (λ (w : Walk). stepDown w (nameIn file k)) (a ∙ ap (walkTo file) p)
-      ∙ sym (walk-down k l e)

@@ -91,9 +91,9 @@ module _ {n : ℕ} {R : ℕ → ℕ → Type 0} {le : ℕ → ℕ → Bool} {nam
       go : (f : Found) → recordNamed file (place n) (name m) ≡ f → f ≡ At (place m)
       go (At k) h =
           let found = name-at file (name m) (place n) k h in
-          let same : nameIn file k ≡ nameIn file (place m) = found .1 ∙ sym (reads-name L I m hm e) in
+          let same : nameIn file k ≡ nameIn file (place m) = found .here ∙ sym (reads-name L I m hm e) in
           let early : place m < place n = place-before le l m n hm e in
-          ap At (names-distinct file (is-accepted L I) k (place m) (omega (arith, how-many L I, found .0)) (omega (arith, how-many L I)) same)
+          ap At (names-distinct file (is-accepted L I) k (place m) (omega (arith, how-many L I, found .below)) (omega (arith, how-many L I)) same)
       go Nothing h = absurd (name-none file (name m) (place n) h (place m) (place-before le l m n hm e) (reads-name L I m hm e))
 
   -- and a name of none of them is not found

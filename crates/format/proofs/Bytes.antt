@@ -2,7 +2,7 @@
 use Prim.Native.Nat.{ℕ, zero, suc, _+_, _-_, _≤_, _<_}
 use mathlib.Core.Bool.{Bool, true, false, _&&_, false≢true}
 use mathlib.Core.List.{List, [], _∷_, _++_}
-use mathlib.Core.Path.{_≡_, refl, ap, _∙_}
+use mathlib.Core.Path.{_≡_, refl, sym, ap, _∙_}
 use native.Mathlib.Nat.{add-assoc}
 use native.Mathlib.Numerals.{add-one}
 use native.Mathlib.Omega.{arith}
@@ -46,6 +46,16 @@ differ a b n = go (sameBytes a b) refl
     go : (t : Bool) → sameBytes a b ≡ t → t ≡ false
     go true e = absurd (n (same-eq a b e))
     go false e = refl
+
+pub same-true : (a b : List ℕ) → a ≡ b → sameBytes a b ≡ true
+same-true a b e = rw e (same-refl b)
+
+pub same? : (a b : List ℕ) → Dec (a ≡ b)
+same? a b = go (sameBytes a b) refl
+  where
+    go : (t : Bool) → sameBytes a b ≡ t → Dec (a ≡ b)
+    go true e = yes (same-eq a b e)
+    go false e = no (λ same. false≢true (sym e ∙ same-true a b same))
 
 -- two strings of n bytes are the same if the first n bytes of both agree, one by one
 abbrev pub agree : List ℕ → List ℕ → ℕ → Bool

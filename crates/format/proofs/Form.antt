@@ -161,3 +161,18 @@ well-formed-iff name = (there, back)
         go : (n : ℕ) → 0 < n → Signs name n → formed name && someNoSpace name ≡ true
         go zero l r = absurd (omega arith)
         go (suc n) l r = rw (signs-formed name (suc n) r, signs-some name n r)
+
+-- so a name has its form or not, and without it fails the test
+pub form? : (name : List ℕ) → Dec (NameForm name)
+form? name = go (wellFormed name) refl
+  where
+    go : (t : Bool) → wellFormed name ≡ t → Dec (NameForm name)
+    go true e = yes (well-formed-iff name .0 e)
+    go false e = no (λ form. false≢true (sym e ∙ well-formed-iff name .1 form))
+
+pub malformed-false : (name : List ℕ) → (NameForm name → ⊥) → wellFormed name ≡ false
+malformed-false name n = go (wellFormed name) refl
+  where
+    go : (t : Bool) → wellFormed name ≡ t → t ≡ false
+    go true e = absurd (n (well-formed-iff name .0 e))
+    go false e = refl

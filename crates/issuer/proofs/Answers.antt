@@ -97,9 +97,9 @@ module _ (policy root : List ℕ) (account l : ℕ) where
   account-given some within e = rw (ne-eqb account 0 (λ z. omega arith), le-ltb (countOf policy l) account within, eq-eqb (length root) 32 e)
 
   -- neither: the root secret has 32 bytes
-  pub account-whole : accountRefusal policy root account l ≡ 0 → length root ≡ 32
+  pub account-whole : {n : ℕ} → n ≡ accountRefusal policy root account l → n ≡ 0 → length root ≡ 32
   unfolding accountRefusal
-  account-whole none = eqb-true (length root) 32 (go (eqb account 0) (ltb (countOf policy l) account) (eqb (length root) 32) none)
+  account-whole e none = eqb-true (length root) 32 (go (eqb account 0) (ltb (countOf policy l) account) (eqb (length root) 32) (sym e ∙ none))
     where
       go : (a b c : Bool) → _≡_ {A = ℕ} (cond a 14 (cond b 14 (cond c 0 15))) 0 → c ≡ true
       go true b c e = absurd (omega arith)
@@ -178,24 +178,31 @@ module _ (policy name : List ℕ) (account : ℕ) (root : List ℕ) where
     number-at : refusal ≡ accountRefusal policy root account l
     number-at = refusal-asked ok at ∙ refusal-at l
 
-    pub number-refuses : {n : ℕ} → accountRefusal policy root account l ≡ n → 0 < n → Refuses n
-    number-refuses e some = refuses some (number-at ∙ e)
+    pub number-refuses : {n : ℕ} → n ≡ accountRefusal policy root account l → 0 < n → Refuses n
+    number-refuses e some = refuses some (number-at ∙ sym e)
 
-    module _ (none : accountRefusal policy root account l ≡ 0) where
-      pub issued-at : (room : ℕ) → issuedOf policy name account root room ≡ issued (handed (envelopeFor policy root l account) room)
-      issued-at room = issued-handed room (number-at ∙ none) ∙ ap (λ (s : List ℕ). issued (handed s room)) (envelope-at at)
+    module _ {n : ℕ} (e : n ≡ accountRefusal policy root account l) (none : n ≡ 0) where
+      unrefused : refusal ≡ 0
+      unrefused = number-at ∙ sym e ∙ none
 
-      pub buffer-at : (out : List ℕ) → bufferAfter policy name account root out ≡ handedInto (envelopeFor policy root l account) out
-      buffer-at out = buffer-handed out (number-at ∙ none) ∙ ap (λ (s : List ℕ). handedInto s out) (envelope-at at)
+      module _ {s : List ℕ} (made : s ≡ envelopeFor policy root l account) where
+        asked-made : s ≡ envelope
+        asked-made = made ∙ sym (envelope-at at)
+
+        pub issued-at : (room : ℕ) {w : Issued} → w ≡ issued (handed s room) → w ≡ issuedOf policy name account root room
+        issued-at room h = h ∙ ap (λ (t : List ℕ). issued (handed t room)) asked-made ∙ sym (issued-handed room unrefused)
+
+        pub buffer-at : (out : List ℕ) {after : List ℕ} → after ≡ handedInto s out → after ≡ bufferAfter policy name account root out
+        buffer-at out h = h ∙ ap (λ (t : List ℕ). handedInto t out) asked-made ∙ sym (buffer-handed out unrefused)
 
   module _ (l : ℕ) where
     pub issue-14 : LabelOf policy name l → NoAccount policy l account → Refuses 14
-    issue-14 h none = number-refuses (h .accepted) (asked-label policy name (h .accepted) h) (account-none policy root account l none) (omega arith)
+    issue-14 h none = number-refuses (h .accepted) (asked-label policy name (h .accepted) h) (sym (account-none policy root account l none)) (omega arith)
 
     pub issue-15 : AccountOf policy name l account → length root ≢ 32 → Refuses 15
     issue-15 h ne =
         number-refuses (h .label .accepted) (asked-label policy name (h .label .accepted) (h .label))
-        (account-15 policy root account l (h .some) (h .within) ne) (omega arith)
+        (sym (account-15 policy root account l (h .some) (h .within) ne)) (omega arith)
 
     -- an existing account and a root secret of 32 bytes: the envelope is handed out
     module _ (h : AccountOf policy name l account) (e : length root ≡ 32) where
@@ -206,10 +213,10 @@ module _ (policy name : List ℕ) (account : ℕ) (root : List ℕ) where
       none = account-given policy root account l (h .some) (h .within) e
 
       pub issue-given : (room : ℕ) → issuedOf policy name account root room ≡ issued (handed (envelopeFor policy root l account) room)
-      issue-given = issued-at (h .label .accepted) at none
+      issue-given room = sym (issued-at (h .label .accepted) at refl none refl room refl)
 
       pub buffer-given : (out : List ℕ) → bufferAfter policy name account root out ≡ handedInto (envelopeFor policy root l account) out
-      buffer-given = buffer-at (h .label .accepted) at none
+      buffer-given out = sym (buffer-at (h .label .accepted) at refl none refl out refl)
 
       pub issue-16 : (room : ℕ) → room < length (envelopeFor policy root l account) → issuedOf policy name account root room ≡ refusedIssue 16
       unfolding handed

@@ -45,7 +45,7 @@ module _ (policy name : List ℕ) where
   asked-below labels l e = go eight-or-other
     where
       go : (length name ≡ 8) ⊎ (length name ≢ 8) → l < labels
-      go (inl h) = name-at policy name labels l (sym (asked-eight labels h) ∙ e) .0
+      go (inl h) = name-at policy name labels l (sym (asked-eight labels h) ∙ e) .below
       go (inr ne) = let z : _≡_ {A = ℕ} 0 1 = cc (asked-other labels ne) in absurd (omega arith)
 
   module _ (ok : Accepted policy) where
@@ -55,7 +55,7 @@ module _ (policy name : List ℕ) where
         let eight : length name ≡ 8 = ap length (sym (h .named)) ∙ name-length policy ok l (h .label) in
         let f = name-found policy name (labelsOf policy) l (h .label) (h .named) in
         let at = name-at policy name (labelsOf policy) (f .0) (f .1) in
-        let same : f .0 ≡ l = lawful policy ok .distinct (f .0) l (at .0) (h .label) (at .1 ∙ sym (h .named)) in
+        let same : f .0 ≡ l = lawful policy ok .distinct (f .0) l (at .below) (h .label) (at .here ∙ sym (h .named)) in
         asked-eight (labelsOf policy) eight ∙ f .1 ∙ ap At same
 
     pub asked-none : NoLabel policy name → labelAsked policy (labelsOf policy) name ≡ Nothing
@@ -69,7 +69,7 @@ module _ (policy name : List ℕ) where
         search-says : length name ≡ 8 → (f : Found) → labelNamed policy (labelsOf policy) name ≡ f → ((l : ℕ) × LabelOf policy name l) ⊎ NoLabel policy name
         search-says e (At l) h =
             let at = name-at policy name (labelsOf policy) l h in
-            inl (l, record { accepted = ok; label = at .0; named = at .1 })
+            inl (l, record { accepted = ok; label = at .below; named = at .here })
         search-says e Nothing h = inr (not-there e (name-none policy name (labelsOf policy) h))
 
         go : (length name ≡ 8) ⊎ (length name ≢ 8) → ((l : ℕ) × LabelOf policy name l) ⊎ NoLabel policy name

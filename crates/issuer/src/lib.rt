@@ -113,7 +113,16 @@ fn issue_label(
     ensures { λ r. ⌜ (r ≡ issued (handed (envelopeOf (nameOf (now (policy .entry))) (atOrBelow (now (rows .entry))) (entries (now (parents .entry))) root l labels account) (length (now (envelope .entry))))) × (now (envelope .exit) ≡ handedInto (envelopeOf (nameOf (now (policy .entry))) (atOrBelow (now (rows .entry))) (entries (now (parents .entry))) root l labels account) (now (envelope .entry))) ⌝ }
 {
     let mut written = [0u8; 2700];
-    let length = writer::write_envelope(policy, labels, rows, parents, root, l, account, &mut written);
+    let length = writer::write_envelope(
+        policy,
+        labels,
+        rows,
+        parents,
+        root,
+        l,
+        account,
+        &mut written,
+    );
     let answer = buffers::hand_out(&written[..length], envelope);
     Issued {
         refusal: answer.refusal,
@@ -126,19 +135,28 @@ pub fn issue(policy: &[u8], name: &[u8], account: u32, root: &[u8], envelope: &m
     ensures { λ r. ⌜ (r ≡ issuedOf (now (policy .entry)) (now (name .entry)) account (now (root .entry)) (length (now (envelope .entry)))) × (now (envelope .exit) ≡ bufferAfter (now (policy .entry)) (now (name .entry)) account (now (root .entry)) (now (envelope .entry))) ⌝ }
 {
     let mut rows = [[false; 64]; 64];
-    let plan = planner::plan_order(policy, &mut rows);
-    if plan.refusal != 0 {
-        return refuse_issue(plan.refusal);
+    let planned = planner::plan_order(policy, &mut rows);
+    if planned.refusal != 0 {
+        return refuse_issue(planned.refusal);
     }
-    match asked_label(policy, plan.labels, name) {
+    match asked_label(policy, planned.labels, name) {
         Found::At(l) => {
             let number = account_refusal(policy, l, account, root);
             if number != 0 {
                 return refuse_issue(number);
             }
-            let parents = plan.parents;
+            let parents = planned.parents;
             let secret = format::read_secret(root, 0);
-            issue_label(policy, plan.labels, &rows, &parents, secret, l, account, envelope)
+            issue_label(
+                policy,
+                planned.labels,
+                &rows,
+                &parents,
+                secret,
+                l,
+                account,
+                envelope,
+            )
         }
         Found::Nothing => refuse_issue(13),
     }

@@ -9,8 +9,8 @@ use native.Mathlib.Omega.{arith}
 use borrow.Author.Tests.{lt-ltb, le-ltb, le-leb, lt-leb, eq-eqb, ne-eqb}
 use lib.Dec.{leb, ltb}
 use lib.ListN.{length, length-take, length-drop}
-use Rattle.format.proofs.Bytes.{same-refl, same-eq, differ}
-use Rattle.format.proofs.Form.{well-formed-iff}
+use Rattle.format.proofs.Bytes.{same-refl, same?, differ}
+use Rattle.format.proofs.Form.{well-formed-iff, form?, malformed-false}
 use Rattle.format.specs.Bytes.{sameBytes}
 use Rattle.format.specs.Form.{NameForm}
 use Rattle.format.specs.Marks.{LB, OV}
@@ -31,29 +31,6 @@ pub data Means (file : List ℕ) (labels pairs : ℕ) : Kind → Type 0 where
   is-refused : {n : ℕ} → RefusedAt file labels pairs n → Means file labels pairs (Refused n)
   is-label : LabelAt file labels pairs → Means file labels pairs (Label (countOf file labels))
   is-over : OverAt file labels pairs → Means file labels pairs (Over (pairAt file labels pairs))
-
--- two byte strings are the same or not, and a name has its form or not
-same? : (a b : List ℕ) → Dec (a ≡ b)
-same? a b = go (sameBytes a b) refl
-  where
-    go : (t : Bool) → sameBytes a b ≡ t → Dec (a ≡ b)
-    go true e = yes (same-eq a b e)
-    go false e = no (λ same. false≢true (sym e ∙ rw same (same-refl b)))
-
-form? : (name : List ℕ) → Dec (NameForm name)
-form? name = go (wellFormed name) refl
-  where
-    go : (t : Bool) → wellFormed name ≡ t → Dec (NameForm name)
-    go true e = yes (well-formed-iff name .0 e)
-    go false e = no (λ form. false≢true (sym e ∙ well-formed-iff name .1 form))
-
--- a name without the form fails the test
-malformed-false : (name : List ℕ) → (NameForm name → ⊥) → wellFormed name ≡ false
-malformed-false name n = go (wellFormed name) refl
-  where
-    go : (t : Bool) → wellFormed name ≡ t → t ≡ false
-    go true e = absurd (n (well-formed-iff name .0 e))
-    go false e = refl
 
 -- a mark takes two bytes, and the two marks differ
 mark-room : (file : List ℕ) (labels pairs a b : ℕ) → markOf file labels pairs ≡ a ∷ b ∷ [] → 2 ≤ bytesLeft file labels pairs
@@ -166,7 +143,7 @@ module _ (file : List ℕ) (labels pairs : ℕ) where
       go : (f : Found) → labelNamed file labels (nameOf file labels) ≡ f → Meaning
       go (At k) e =
           let at = name-at file (nameOf file labels) labels k e in
-          no-row (row-7 record { label = l; formed = form; earlier = k; before = at .0; carried = at .1 })
+          no-row (row-7 record { label = l; formed = form; earlier = k; before = at .below; carried = at .here })
       go Nothing e =
           (Label (countOf file labels), is-label record { label = l; formed = form; new = name-none file (nameOf file labels) labels e })
 

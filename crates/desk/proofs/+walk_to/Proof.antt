@@ -17,14 +17,16 @@ use Rattle.format.specs.Marks.{KS}
 use Rattle.hmac.proofs.child_secret.Reads as child-secret-reads
 use Rattle.hmac.specs.Secrets.{childSecret}
 use Rattle.desk.proofs.Starts.{room, held-room, held-there, name-there, secret-there, place-there, located-fewer, falling-fewer}
-use Rattle.desk.proofs.Walks.{walk-held, walk-made}
+use Rattle.desk.proofs.Walks.{walk-held, walk-down}
 use Rattle.desk.proofs.walk_to.Reads as walk-to
 use Rattle.desk.proofs.walk_to.Kinds as walk-to-kinds
 use Rattle.desk.proofs.+walk_to.Lts-walk_to as lts
 use Rattle.desk.proofs.+walk_to.{statement}
 use Rattle.desk.proofs.+walk_to.Tie.{close}
-use Rattle.desk.specs.Derive.{walkTo}
-use Rattle.desk.specs.File.{startOf, isHeld, placeIn}
+use Rattle.desk.specs.Derive.{stepDown, walkTo}
+use Rattle.desk.specs.File.{startOf, isHeld, nameIn, placeIn}
+use Rattle.desk.specs.Reads.{Falling}
+use Rattle.desk.specs.declared.Walk.{Walk}
 
 abbrev μ : Measures 2 walk-to-kinds.ps ℕ
 μ κs a = a .1 .1 .0
@@ -49,6 +51,15 @@ calls t = (
   child-secret-reads.Asked,
   child-secret-reads.Learnt,
 )
+
+-- one step from a walk to the record's place, whatever that was read as, and the child's secret
+walk-made : (file : List ℕ) (k : ℕ) → Falling file (k + 1) → isHeld file k ≡ false → (above : Walk) (place : ℕ) (secret : List ℕ)
+    → above ≡ walkTo file place → place ≡ placeIn file k → secret ≡ childSecret (above .secret) (nameIn file k)
+    → record { secret = secret; steps = above .steps + 1 } ≡ walkTo file k
+walk-made file k f e above place secret a p s =
+    ap (λ (x : List ℕ). record { secret = x; steps = above .steps + 1 }) s
+    ∙ ap (λ (w : Walk). stepDown w (nameIn file k)) (a ∙ ap (walkTo file) p)
+    ∙ sym (walk-down file (k + 1) f k (omega arith) e)
 
 module _ (t : ℕ) where
   -- what is known at the start: where the record starts, that its bytes are there, and by its mark whether it is held
@@ -105,7 +116,7 @@ module _ (t : ℕ) where
   returns c =
       let start = c .before .before .before .before .before in
       let held = held-is start (c .before .before .marked .ensures) (c .before .if1 .taken) in
-      let secret = c .read-secret .ensures ∙ secret-there (file start) (k start) (getD (starts start) (k start) 0) (begins start) in
+      let secret = secret-there (file start) (k start) (getD (starts start) (k start) 0) (begins start) (c .read-secret .ensures) in
       (ap (λ (x : List ℕ). record { secret = x; steps = 0 }) secret ∙ sym (walk-held (file start) (k start) held), omega arith)
 
   add-place : lts.Need-add-place (calls t) (here t) walk-to.Post
@@ -145,12 +156,12 @@ module _ (t : ℕ) where
       let start = c .before .before .before .before .before .before .before .before .before .before in
       let held = held-is start (c .before .before .before .before .before .before .before .marked .ensures) (c .before .before .before .before .before .before .if1 .left) in
       let above = c .before .before .before .before .walk-to in
-      let name = c .before .read-name .ensures ∙ name-there (file start) (k start) (getD (starts start) (k start) 0) (begins start) in
+      let name = name-there (file start) (k start) (getD (starts start) (k start) 0) (begins start) (c .before .read-name .ensures) in
       let secret = c .child-secret .ensures ∙ ap (childSecret (above .result .secret)) name in
-      let place = getD (file start) (getD (starts start) (k start) 0 + 10) 0 in
-      (walk-made (file start) (k start + 1) (start .pre .1 .1) (k start) (omega arith) held (above .result) place (c .child-secret .result)
-      (above .ensures .0) (place-is start) secret,
-      omega (arith, above .ensures .1, place-falls start held))
+      let place = getD (file start) (getD (starts start) (k start) 0 + 10) 0 in (
+        walk-made (file start) (k start) (start .pre .1 .1) held (above .result) place (c .child-secret .result) (above .ensures .0) (place-is start) secret,
+        omega (arith, above .ensures .1, place-falls start held),
+      )
 
 pub +walk-to-spec : {M : Type 1} → statement M
 +walk-to-spec =

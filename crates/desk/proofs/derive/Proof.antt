@@ -1,14 +1,12 @@
 -- `desk::derive` meets its contract: the envelope's refusal first, then what the search for the name leads to.
-use mathlib.Core.Path.{sym, ap, _∙_}
+use mathlib.Core.Path.{_≡_, sym, _∙_}
 use native.Mathlib.Omega.{arith}
 use borrow.Author.Needs.{needs}
 use denote.Ref.{now}
-use Rattle.desk.proofs.Asked.{asked-refused}
-use Rattle.desk.proofs.Deriving.{read-located, found-located, found-falling, found-answer, none-answer}
+use Rattle.desk.proofs.Deriving.{refused-answer, read-located, found-located, found-falling, found-answer, none-answer}
 use Rattle.desk.proofs.derive.Statement.{statement}
 use Rattle.desk.proofs.derive.Tie as tie
 use Rattle.desk.specs.Derive.{refusedDerived}
-use Rattle.desk.specs.declared.Contents.{Contents}
 
 read-envelope-requires : tie.Need-read-envelope-requires
 read-envelope-requires c κs = search needs
@@ -19,8 +17,9 @@ refuse-requires c κs = search needs
 returns : tie.Need-returns
 returns c =
     let a = c .before .before .before .before .before .before .args in
-    let number = ap (λ (r : Contents). r .refusal) (c .before .before .before .read-envelope .ensures) in
-    c .refuse .ensures ∙ ap refusedDerived number ∙ sym (asked-refused (now (a .envelope)) (now (a .name)) (omega (arith, number)))
+    let read = c .before .before .before .read-envelope in
+    let number : c .refuse .result ≡ refusedDerived (read .result .refusal) = c .refuse .ensures in
+    number ∙ sym (refused-answer (now (a .envelope)) (now (a .name)) (read .result) (read .ensures) (omega arith))
 
 asked-record-requires : tie.Need-asked-record-requires
 asked-record-requires c κs =
@@ -40,9 +39,10 @@ derive-record-requires c κs =
     let file = now (start .args .envelope) in
     let read = b .before .before .read-envelope in
     let asked = c .before .before .before .before .asked-record in
-    let told = c .before .before .k .given in
-    (found-located file (read .result) (read .ensures) (b .if1 .left) (now (start .args .name)) (asked .result) (asked .ensures) (told .0 .0) (told .1),
-    found-falling file (read .result) (read .ensures) (b .if1 .left) (now (start .args .name)) (asked .result) (asked .ensures) (told .0 .0) (told .1))
+    let told = c .before .before .k .given in (
+      found-located file (read .result) (read .ensures) (b .if1 .left) (now (start .args .name)) (asked .result) (asked .ensures) (told .0 .0) (told .1),
+      found-falling file (read .result) (read .ensures) (b .if1 .left) (now (start .args .name)) (asked .result) (asked .ensures) (told .0 .0) (told .1),
+    )
 
 enum-told : tie.Need-enum-told
 enum-told c = search needs

@@ -1,15 +1,26 @@
 -- `desk::derive_record` meets its contract: the key is made from the secret that the walk leads to, one application behind its steps.
-use Prim.Native.Nat.{_+_}
-use mathlib.Core.Path.{ap, _∙_}
+use Prim.Native.Nat.{ℕ, _+_}
+use mathlib.Core.List.{List}
+use mathlib.Core.Path.{_≡_, ap, _∙_}
 use native.Mathlib.Omega.{arith}
 use borrow.Author.Needs.{needs}
 use denote.Ref.{now}
 use lib.ListN.{getD}
 use Rattle.hmac.specs.Secrets.{labelKey}
-use Rattle.desk.proofs.Deriving.{derived-made}
 use Rattle.desk.proofs.Starts.{room, name-there, located-fewer, falling-fewer}
 use Rattle.desk.proofs.derive_record.Statement.{statement}
 use Rattle.desk.proofs.derive_record.Tie as tie
+use Rattle.desk.specs.Derive.{walkTo, derivedAt}
+use Rattle.desk.specs.File.{nameIn}
+use Rattle.desk.specs.declared.Walk.{Walk}
+
+-- the key and the count of applications, from the way to the record's secret
+derived-made : (file : List ℕ) (k : ℕ) (walk : Walk) (key : List ℕ) → walk ≡ walkTo file k → key ≡ labelKey (walk .secret) (nameIn file k)
+    → record { refusal = 0; key = key; applications = walk .steps + 1 } ≡ derivedAt file k
+unfolding derivedAt
+derived-made file k walk key w e =
+    ap (λ (x : List ℕ). record { refusal = 0; key = x; applications = walk .steps + 1 }) e
+    ∙ ap (λ (v : Walk). record { refusal = 0; key = labelKey (v .secret) (nameIn file k); applications = v .steps + 1 }) w
 
 walk-to-requires : tie.Need-walk-to-requires
 walk-to-requires c κs = (located-fewer (omega arith) (c .before .pre .0), falling-fewer (omega arith) (c .before .pre .1))
@@ -45,7 +56,7 @@ returns c =
     let k = start .args .k in
     let walk = c .before .before .before .before .before .walk-to in
     let begins = start .pre .0 .begins k (omega arith) in
-    let name = c .before .read-name .ensures ∙ name-there file k (getD (now (start .args .starts)) k 0) begins in
+    let name = name-there file k (getD (now (start .args .starts)) k 0) begins (c .before .read-name .ensures) in
     derived-made file k (walk .result) (c .label-key .result) (walk .ensures .0)
     (c .label-key .ensures ∙ ap (labelKey (walk .result .secret)) name)
 

@@ -36,7 +36,7 @@ returns-2 c =
     let file = now (start .args .envelope) in
     let k = start .args .records in
     let name : c .before .before .before .read-name .result ≡ nameIn file k =
-    c .before .before .before .read-name .ensures ∙ name-there file k (start .args .at) (start .pre .1) in
+    name-there file k (start .args .at) (start .pre .1) (c .before .before .before .read-name .ensures) in
     let formed : wellFormed (nameIn file k) ≡ false =
     ap wellFormed (sym name) ∙ sym (c .before .well-formed .ensures) ∙ not-true _ (c .if2 .taken) in
     sym (name-unformed file k (omega arith) formed)
@@ -58,7 +58,7 @@ returns-3 c =
     let k = start .args .records in
     let told = c .enum-told .given in
     let name : b .before .before .before .read-name .result ≡ nameIn file k =
-    b .before .before .before .read-name .ensures ∙ name-there file k (start .args .at) (start .pre .1) in
+    name-there file k (start .args .at) (start .pre .1) (b .before .before .before .read-name .ensures) in
     let formed : wellFormed (nameIn file k) ≡ true =
     ap wellFormed (sym name) ∙ sym (b .before .well-formed .ensures) ∙ not-false _ (b .if2 .left) in
     let found : recordNamed file k (nameIn file k) ≡ At (told .0 .0) =
@@ -72,7 +72,7 @@ returns-4 c =
     let file = now (start .args .envelope) in
     let k = start .args .records in
     let name : b .before .before .before .read-name .result ≡ nameIn file k =
-    b .before .before .before .read-name .ensures ∙ name-there file k (start .args .at) (start .pre .1) in
+    name-there file k (start .args .at) (start .pre .1) (b .before .before .before .read-name .ensures) in
     let formed : wellFormed (nameIn file k) ≡ true =
     ap wellFormed (sym name) ∙ sym (b .before .well-formed .ensures) ∙ not-false _ (b .if2 .left) in
     let found : recordNamed file k (nameIn file k) ≡ Nothing =

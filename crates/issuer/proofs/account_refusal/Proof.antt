@@ -11,7 +11,7 @@ use Rattle.issuer.proofs.account_refusal.Tie as tie
 returns : tie.Need-returns
 returns c =
     let a = c .before .before .before .args in
-    sym (account-none (a .policy .now) (a .root .now) (a .account) (a .l) (inl (c .if1 .taken)))
+    sym (account-none (a .policy .now) (a .root .now) (a .account) (a .l) (inl (omega (arith, c .if1 .taken))))
 
 returns-2 : tie.Need-returns-2
 unfolding countOf

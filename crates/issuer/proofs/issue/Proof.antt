@@ -1,12 +1,9 @@
 -- `issuer::issue` meets its contract: each refusal in its turn, with the buffer as it was, then the envelope of the label asked for.
-use Prim.Native.Nat.{ℕ}
-use mathlib.Core.List.{List}
 use mathlib.Core.Path.{sym, ap, _∙_}
 use native.Mathlib.Omega.{arith}
 use lib.ListN.{length}
 use borrow.Author.Needs.{needs}
-use Rattle.buffers.specs.Handed.{handed, handedInto}
-use Rattle.issuer.specs.Issue.{refusedIssue, issued}
+use Rattle.issuer.specs.Issue.{refusedIssue}
 use Rattle.issuer.proofs.Answers.{account-whole, issue-policy, asked-13, number-refuses, issued-at, buffer-at}
 use Rattle.issuer.proofs.Tables.{plan-number, plan-within, plan-accepted, plan-hung, asked-told, told-below, told-within, envelope-made}
 use Rattle.issuer.proofs.issue.Statement.{statement}
@@ -32,7 +29,7 @@ returns-2 c =
     let same = p .plan-order .ensures .0 in
     let ok = plan-accepted (a .policy .now) same (f .before .if1 .left) in
     let at = asked-told (a .policy .now) same (a .name .now) (f .asked-label .ensures) (l .l .given .1) in
-    let refused = number-refuses (a .policy .now) (a .name .now) (a .account) (a .root .now) ok at (sym (n .account-refusal .ensures)) (omega arith) in
+    let refused = number-refuses (a .policy .now) (a .name .now) (a .account) (a .root .now) ok at (n .account-refusal .ensures) (omega arith) in
     (c .refuse-issue2 .ensures ∙ sym (refused .issues (length out)), sym (refused .leaves out))
 
 returns-3 : tie.Need-returns-3
@@ -48,15 +45,12 @@ returns-3 c =
     let same = p .plan-order .ensures .0 in
     let ok = plan-accepted (a .policy .now) same (f .before .if1 .left) in
     let at = asked-told (a .policy .now) same (a .name .now) (f .asked-label .ensures) (l .l .given .1) in
-    let none = sym (n .account-refusal .ensures) ∙ s .before .before .if2 .left in
-    let whole = account-whole (a .policy .now) (a .root .now) (a .account) (l .l .given .0 .0) none in
+    let number = n .account-refusal .ensures in
+    let none = s .before .before .if2 .left in
+    let whole = account-whole (a .policy .now) (a .root .now) (a .account) (l .l .given .0 .0) number none in
     let made = envelope-made (a .policy .now) same (a .root .now) whole (s .read-secret .ensures) (l .l .given .0 .0) (a .account) (p .plan-order .ensures .1) in (
-      i .issue-label .ensures .0
-      ∙ ap (λ (e : List ℕ). issued (handed e (length out))) made
-      ∙ sym (issued-at (a .policy .now) (a .name .now) (a .account) (a .root .now) ok at none (length out)),
-      i .issue-label .ensures .1
-      ∙ ap (λ (e : List ℕ). handedInto e out) made
-      ∙ sym (buffer-at (a .policy .now) (a .name .now) (a .account) (a .root .now) ok at none out),
+      issued-at (a .policy .now) (a .name .now) (a .account) (a .root .now) ok at number none made (length out) (i .issue-label .ensures .0),
+      buffer-at (a .policy .now) (a .name .now) (a .account) (a .root .now) ok at number none made out (i .issue-label .ensures .1),
     )
 
 returns-4 : tie.Need-returns-4
@@ -101,7 +95,7 @@ read-secret-requires c κs =
     let n = c .before .before in
     let l = n .before .before in
     let a = l .before .before .before .before .before .before .before .before .before .before .before .args in
-    omega (arith, account-whole (a .policy .now) (a .root .now) (a .account) (l .l .given .0 .0) (sym (n .account-refusal .ensures) ∙ c .before .if2 .left))
+    omega (arith, account-whole (a .policy .now) (a .root .now) (a .account) (l .l .given .0 .0) (n .account-refusal .ensures) (c .before .if2 .left))
 
 issue-label-requires : tie.Need-issue-label-requires
 issue-label-requires c κs =

@@ -3,6 +3,7 @@ use Prim.Native.Nat.{ℕ}
 use mathlib.Core.List.{List}
 use mathlib.Core.Path.{_≡_, sym, ap, _∙_}
 use native.Mathlib.Omega.{arith}
+use lib.ListN.{length}
 use borrow.Author.Needs.{needs}
 use Rattle.policy.specs.File.{nameOf}
 use Rattle.issuer.specs.Keys.{refusedKey}
@@ -32,7 +33,7 @@ returns-2 c =
     let ok = plan-accepted (a .policy .now) same (f .before .if1 .left) in
     let asked = asked-told (a .policy .now) same (a .name .now) (f .asked-label .ensures) (i .before .before .l .given .1) in
     c .refuse-key2 .ensures
-    ∙ sym (key-asked (a .policy .now) (a .name .now) (a .root .now) ok asked ∙ key-15 (a .policy .now) (a .name .now) (a .root .now) _ (i .if2 .taken))
+    ∙ sym (key-asked (a .policy .now) (a .name .now) (a .root .now) ok asked ∙ key-15 (a .policy .now) (a .name .now) (a .root .now) _ (omega (arith, i .if2 .taken)))
 
 returns-3 : tie.Need-returns-3
 unfolding nameOf
@@ -48,7 +49,7 @@ returns-3 c =
     let ok = plan-accepted (a .policy .now) same (f .before .if1 .left) in
     let asked = asked-told (a .policy .now) same (a .name .now) (f .asked-label .ensures) (i .before .before .l .given .1) in
     let l = i .before .before .l .given .0 .0 in
-    let whole = i .if2 .left in
+    let whole : length (a .root .now) ≡ 32 = omega (arith, i .if2 .left) in
     let key =
     key-made (a .policy .now) same (a .root .now) whole (r .read-secret .ensures) l (s .secret-of .ensures) (n .read-name .ensures) (c .label-key .ensures) in
     ap (λ (k : List ℕ). given k) key

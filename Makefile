@@ -10,7 +10,7 @@ SEED ?= 1
 EXPORTS := target/staticlib/libexports.a
 COMPARE := build/compare
 BENCH := build/bench
-BENCH_PLAN := build/bench-plan
+BENCH_RUST := build/bench-rust
 OPENSSL := $(shell echo '\#include <openssl/evp.h>' | $(CC) -E - >/dev/null 2>&1 && echo '-DWITH_OPENSSL -lcrypto')
 
 .PHONY: test compare bench clean FORCE
@@ -21,9 +21,9 @@ test:
 compare: $(COMPARE)
 	@$(COMPARE) $(SEED)
 
-bench: $(BENCH) $(BENCH_PLAN)
+bench: $(BENCH) $(BENCH_RUST)
 	@$(BENCH)
-	@$(BENCH_PLAN)
+	@$(BENCH_RUST)
 
 # rt decides itself what has to be proved again.
 $(EXPORTS): FORCE
@@ -35,10 +35,10 @@ $(COMPARE): $(EXPORTS) $(wildcard tests/compare/*.rs)
 $(BENCH): $(EXPORTS) $(wildcard tests/bench/*.[ch])
 	@$(CC) -O3 -Wall -Wextra tests/bench/bench.c tests/bench/sha256.c $(EXPORTS) $(OPENSSL) -Wno-deprecated-declarations -o $@
 
-$(BENCH_PLAN): $(EXPORTS) tests/bench/plan.rs $(wildcard tests/compare/*.rs)
-	@$(RUSTC) --edition 2021 -C opt-level=3 -L target/staticlib -l static=exports tests/bench/plan.rs -o $@
+$(BENCH_RUST): $(EXPORTS) $(wildcard tests/bench/*.rs tests/compare/*.rs)
+	@$(RUSTC) --edition 2021 -C opt-level=3 -L target/staticlib -l static=exports tests/bench/bench.rs -o $@
 
-$(EXPORTS) $(COMPARE) $(BENCH) $(BENCH_PLAN): | build
+$(EXPORTS) $(COMPARE) $(BENCH) $(BENCH_RUST): | build
 
 build:
 	@mkdir -p build

@@ -100,3 +100,88 @@ for name, answer in (
     ("an empty policy and an empty tree file", "REFUSED 1"),
 ):
     line(name, answer)
+
+# Keys and envelopes of document 01's policy E, whose tree it gives, with the root secret 0, 1, .. 31.
+NAMES = ("SUITE", "CURVES", "CONV32", "ACCRUED")
+PARENTS = {"CURVES": "SUITE", "CONV32": "SUITE", "ACCRUED": "CONV32"}
+BELOW = {"SUITE": NAMES, "CURVES": ("CURVES", "ACCRUED"), "CONV32": ("CONV32", "ACCRUED"), "ACCRUED": ("ACCRUED",)}
+ROOT = bytes(range(32))
+
+
+def padded(name):
+    return name.encode().ljust(8)
+
+
+def applied(secret, name):
+    return hmac.new(secret, padded(name), "sha256").digest()
+
+
+def secret_of(name):
+    return applied(secret_of(PARENTS[name]), name) if name in PARENTS else ROOT
+
+
+def key_of(name):
+    return applied(secret_of(name), name)
+
+
+def held(label):
+    return [name for name in BELOW[label] if PARENTS.get(name) not in BELOW[label]]
+
+
+def envelope(label, account):
+    records = b""
+    for name in BELOW[label]:
+        if name in held(label):
+            records += b"KS" + padded(name) + secret_of(name)
+        else:
+            records += b"KD" + padded(name) + bytes([BELOW[label].index(PARENTS[name])])
+    return b"EN" + account.to_bytes(2, "big") + padded(label) + records
+
+
+def applications(label, name):
+    """Tree steps from the secret that is held at the label, plus one."""
+    return 1 if name in held(label) else 1 + applications(label, PARENTS[name])
+
+
+def issued(label, account, length, secrets):
+    """An envelope, whose length document 01 gives for most labels, and the number of its secrets for one."""
+    made = envelope(label, account)
+    if (len(made), len(held(label))) != (length, secrets):
+        raise SystemExit(f"{label}: {len(made)} bytes, {len(held(label))} secrets; document 01 has {length}, {secrets}")
+    line(f"E, {label}, account {account}", f"{length} bytes, {made.hex()}")
+
+
+def derived(name, label, count):
+    """A name from a label's envelope, with the applications that document 01 gives for most."""
+    if applications(label, name) != count:
+        raise SystemExit(f"{name} from {label}: {applications(label, name)} applications, and document 01 has {count}")
+    line(f"{name} from {label}", f"{count} applications, {key_of(name).hex()}")
+
+
+for name in NAMES:
+    line(f"key of {name}", key_of(name).hex())
+line("key of RATES", "REFUSED 13")
+line("key of SUITE in 5 bytes", "REFUSED 13")
+line("key of SUITE, root of 31 bytes", "REFUSED 15")
+line("key of RATES, root of 31 bytes", "REFUSED 13")
+line("key, an empty policy", "REFUSED 1")
+issued("CONV32", 5, 65, 1)
+issued("CURVES", 3, 96, 2)
+issued("SUITE", 2, 87, 1)
+issued("ACCRUED", 1, 54, 1)
+line("E, CONV32, account 5, 64 bytes", "REFUSED 16")
+line("E, CONV32, account 6", "REFUSED 14")
+line("E, CONV32, account 0", "REFUSED 14")
+line("E, RATES, account 0, no buffer", "REFUSED 13")
+derived("SUITE", "SUITE", 1)
+derived("CURVES", "SUITE", 2)
+derived("CONV32", "SUITE", 2)
+derived("ACCRUED", "SUITE", 3)
+derived("CONV32", "CONV32", 1)
+derived("ACCRUED", "CONV32", 2)
+derived("ACCRUED", "CURVES", 1)
+line("CURVES from CONV32", "REFUSED 20")
+line("CONV32 from CONV32 in 6 bytes", "REFUSED 20")
+line("a bare header", "REFUSED 18")
+line("11 bytes", "REFUSED 17")
+line("a header with account 0", "REFUSED 17")

@@ -1,11 +1,35 @@
 //! Files to compare on. Policy files: valid ones of every size and shape, damaged ones, and noise. Tree files:
 //! valid ones and damaged ones.
 
-use crate::policy::{Policy, MOST_LABELS, MOST_PAIRS};
+use crate::policy::{self, Policy, MOST_LABELS, MOST_PAIRS};
 use crate::random::Random;
 use crate::tree::Planned;
 
 const NAME_BYTES: &[u8] = b"ABCDEFGHIJKLMNOPQRSTUVWXYZ0123456789";
+
+/// A policy as document 01 writes it: names with their accounts, and pairs.
+pub fn written(labels: &[(&str, u16)], pairs: &[(u8, u8)]) -> Vec<u8> {
+    let padded = |name: &str| format!("{name:8}").into_bytes().try_into().unwrap();
+    let policy = Policy {
+        names: labels.iter().map(|label| padded(label.0)).collect(),
+        counts: labels.iter().map(|label| label.1).collect(),
+        pairs: pairs.to_vec(),
+    };
+    policy.to_bytes()
+}
+
+pub fn written_e(pairs: &[(u8, u8)]) -> Vec<u8> {
+    written(&[("SUITE", 2), ("CURVES", 3), ("CONV32", 5), ("ACCRUED", 4)], pairs)
+}
+
+pub const E_PAIRS: [(u8, u8); 4] = [(0, 1), (0, 2), (1, 3), (2, 3)];
+
+/// That many labels named L0, L1 and so on.
+pub fn numbered(labels: usize, count: u16, pairs: &[(u8, u8)]) -> Vec<u8> {
+    let names: Vec<String> = (0..labels).map(|l| format!("L{l}")).collect();
+    let labels: Vec<(&str, u16)> = names.iter().map(|name| (name.as_str(), count)).collect();
+    written(&labels, pairs)
+}
 
 /// A well-formed name; short ones are frequent, so that names meet.
 pub fn name(random: &mut Random) -> [u8; 8] {
@@ -164,6 +188,22 @@ pub fn noise(random: &mut Random, length: usize) -> Vec<u8> {
     file
 }
 
+/// A policy that is refused, with each refusal from 1 to 10 among them.
+pub fn refused_policy(random: &mut Random) -> (Vec<u8>, u8) {
+    loop {
+        let length = random.below(3000);
+        let file = match random.below(40) {
+            0 => Vec::new(),
+            1 => noise(random, length),
+            2 => overfull(random),
+            _ => damaged(random),
+        };
+        if let Err(number) = policy::read(&file) {
+            return (file, number);
+        }
+    }
+}
+
 /// Counts for that many labels. Small ones and equal ones are frequent, so that weights tie.
 fn counts(random: &mut Random, labels: usize) -> Vec<u16> {
     let kind = random.below(6);
@@ -232,6 +272,19 @@ pub fn shaped(random: &mut Random, labels: usize, more_pairs: usize) -> Policy {
         pairs.push(if random.once_in(new_in) { new } else { again });
     }
     with_pairs(random, labels, pairs)
+}
+
+/// A policy of any size and shape; each eighth is full, with 64 labels and 512 pairs.
+pub fn any_size(random: &mut Random, i: usize) -> Policy {
+    let most_labels = random.choose(&[8, 20, MOST_LABELS]);
+    let labels = 1 + random.below(most_labels);
+    let more = random.choose(&[0, 3, 60, MOST_PAIRS]);
+    match i {
+        0..=63 => shaped(random, i + 1, 512),
+        _ if i % 8 == 0 => shaped(random, 64, 512),
+        _ if i % 8 == 1 => any_policy(random),
+        _ => shaped(random, labels, more),
+    }
 }
 
 /// An accepted policy for each set of pairs that is possible with that many labels.

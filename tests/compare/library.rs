@@ -47,6 +47,28 @@ pub struct Written {
     pub length: usize,
 }
 
+#[repr(C)]
+#[derive(Debug, PartialEq)]
+pub struct IssuerKey {
+    pub refusal: u8,
+    pub key: [u8; 32],
+}
+
+#[repr(C)]
+#[derive(Debug, PartialEq)]
+pub struct Issued {
+    pub refusal: u8,
+    pub length: usize,
+}
+
+#[repr(C)]
+#[derive(Debug, PartialEq)]
+pub struct Derived {
+    pub refusal: u8,
+    pub key: [u8; 32],
+    pub applications: u8,
+}
+
 extern "C" {
     pub fn yendlowa_sha256(message: *const u8, length: usize) -> Digest;
     pub fn yendlowa_hmac_sha256(
@@ -70,4 +92,29 @@ extern "C" {
         out: *mut u8,
         out_length: usize,
     ) -> Written;
+    pub fn yendlowa_issuer_key(
+        policy: *const u8,
+        policy_length: usize,
+        name: *const u8,
+        name_length: usize,
+        root: *const u8,
+        root_length: usize,
+    ) -> IssuerKey;
+    pub fn yendlowa_issue(
+        policy: *const u8,
+        policy_length: usize,
+        name: *const u8,
+        name_length: usize,
+        account: u32,
+        root: *const u8,
+        root_length: usize,
+        envelope: *mut u8,
+        envelope_length: usize,
+    ) -> Issued;
+    pub fn yendlowa_derive(
+        envelope: *const u8,
+        envelope_length: usize,
+        name: *const u8,
+        name_length: usize,
+    ) -> Derived;
 }

@@ -4,13 +4,17 @@
 //! compare [SEED]
 
 mod brute;
+mod deriving;
+mod envelope;
 mod files;
 mod group;
+mod issuing;
 mod library;
 mod ours;
 mod plans;
 mod policy;
 mod random;
+mod records;
 mod sha256;
 mod tree;
 
@@ -117,6 +121,7 @@ fn main() {
     let random = &mut Random::new(seed);
     let second = &sha256::Sha256::new();
     let counts = &mut plans::Counts::default();
+    let issued = &mut issuing::Counts::default();
     let results = [
         hash_lengths(random, second),
         hash_random(random, second),
@@ -142,9 +147,21 @@ fn main() {
         plans::tree_files(random, counts),
         plans::rooms(random, counts),
         plans::refused(random, counts),
+        issuing::by_hand(second, issued),
+        issuing::every_envelope(random, second, issued),
+        issuing::wrong_calls(random, second, issued),
+        issuing::rooms(random, second, issued),
+        issuing::refused(random, second, issued),
+        deriving::by_hand(second, issued),
+        deriving::damaged(random, second, issued),
+        deriving::made_up(random, second, issued),
+        deriving::cut(random, second, issued),
+        deriving::noise(random, second, issued),
     ];
     let plans::Counts { plans, trees, texts } = counts;
     println!("compare: in all {plans} policies planned, {trees} trees weighed, {texts} texts written");
+    let issuing::Counts { keys, envelopes, derived } = issued;
+    println!("compare: in all {keys} keys asked for, {envelopes} envelopes issued, {derived} names derived");
     let passed = results.iter().filter(|passed| **passed).count();
     println!("{} passed, {} failed", passed, results.len() - passed);
     std::process::exit(if passed == results.len() { 0 } else { 1 });

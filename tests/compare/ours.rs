@@ -84,3 +84,50 @@ pub fn plan_text(policy: &[u8], out: &mut [u8]) -> (u8, usize) {
     };
     (written.refusal, written.length)
 }
+
+/// The issuer's key, or the refusal. Beside a refusal stand 32 zero bytes; else the error is 255.
+pub fn issuer_key(policy: &[u8], name: &[u8], root: &[u8]) -> Result<[u8; 32], u8> {
+    let answer = unsafe {
+        let (policy, length) = (policy.as_ptr(), policy.len());
+        yendlowa_issuer_key(policy, length, name.as_ptr(), name.len(), root.as_ptr(), root.len())
+    };
+    match (answer.refusal, answer.key) {
+        (0, key) => Ok(key),
+        (number, key) if key == [0; 32] => Err(number),
+        _ => Err(255),
+    }
+}
+
+/// The length of the envelope that was written into the buffer, or the refusal. Beside a refusal stands 0; else
+/// the error is 255.
+pub fn issue(policy: &[u8], name: &[u8], account: u32, root: &[u8], envelope: &mut [u8]) -> Result<usize, u8> {
+    let issued = unsafe {
+        yendlowa_issue(
+            policy.as_ptr(),
+            policy.len(),
+            name.as_ptr(),
+            name.len(),
+            account,
+            root.as_ptr(),
+            root.len(),
+            envelope.as_mut_ptr(),
+            envelope.len(),
+        )
+    };
+    match (issued.refusal, issued.length) {
+        (0, length) => Ok(length),
+        (number, 0) => Err(number),
+        _ => Err(255),
+    }
+}
+
+/// The key and the number of applications, or the refusal. Beside a refusal stand 32 zero bytes and 0; else the
+/// error is 255.
+pub fn derive(envelope: &[u8], name: &[u8]) -> Result<([u8; 32], u8), u8> {
+    let derived = unsafe { yendlowa_derive(envelope.as_ptr(), envelope.len(), name.as_ptr(), name.len()) };
+    match (derived.refusal, derived.key, derived.applications) {
+        (0, key, applications) => Ok((key, applications)),
+        (number, key, 0) if key == [0; 32] => Err(number),
+        _ => Err(255),
+    }
+}

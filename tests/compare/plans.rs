@@ -4,7 +4,7 @@ use crate::brute::{self, Tried};
 use crate::files;
 use crate::group::{hex, Group};
 use crate::ours;
-use crate::policy::{self, Policy};
+use crate::policy::Policy;
 use crate::random::Random;
 use crate::tree::{self, Plan, Planned};
 use std::collections::BTreeMap;
@@ -69,36 +69,12 @@ impl<'a> Asked<'a> {
     }
 }
 
-/// A policy as document 01 writes it: names with their accounts, and pairs.
-fn written(labels: &[(&str, u16)], pairs: &[(u8, u8)]) -> Vec<u8> {
-    let padded = |name: &str| format!("{name:8}").into_bytes().try_into().unwrap();
-    let policy = Policy {
-        names: labels.iter().map(|label| padded(label.0)).collect(),
-        counts: labels.iter().map(|label| label.1).collect(),
-        pairs: pairs.to_vec(),
-    };
-    policy.to_bytes()
-}
-
-fn written_e(pairs: &[(u8, u8)]) -> Vec<u8> {
-    written(&[("SUITE", 2), ("CURVES", 3), ("CONV32", 5), ("ACCRUED", 4)], pairs)
-}
-
-const E_PAIRS: [(u8, u8); 4] = [(0, 1), (0, 2), (1, 3), (2, 3)];
-
 const E_TEXT: &str = "SUITE - 2 1 2
 CURVES SUITE 3 2 3
 CONV32 SUITE 5 1 5
 ACCRUED CONV32 7 1 4
 TOTAL 17
 ";
-
-/// That many labels named L0, L1 and so on.
-fn numbered(labels: usize, count: u16, pairs: &[(u8, u8)]) -> Vec<u8> {
-    let names: Vec<String> = (0..labels).map(|l| format!("L{l}")).collect();
-    let labels: Vec<(&str, u16)> = names.iter().map(|name| (name.as_str(), count)).collect();
-    written(&labels, pairs)
-}
 
 /// 9 labels below the top and 54 below each of these, with 65,535 accounts each. In the plan the 54 hang from
 /// label 1, so each of the other 8 holds 54 keys beside its own.
@@ -112,22 +88,22 @@ fn two_layers() -> (Vec<u8>, Plan) {
         sizes: [vec![1; 2], vec![55; 8], vec![1; 54]].concat(),
         total: 32_505_360,
     };
-    (numbered(64, 65_535, &pairs), plan)
+    (files::numbered(64, 65_535, &pairs), plan)
 }
 
 /// Document 01's policies with the plan that it gives, or the refusal, and large ones.
 fn plans_by_hand() -> Vec<(&'static str, Vec<u8>, Result<Plan, u8>)> {
-    let e = |more: &[(u8, u8)]| written_e(&[&E_PAIRS, more].concat());
-    let one = written(&[("A", 7)], &[]);
-    let chain = written(&[("A", 1), ("B", 0), ("C", 4)], &[(0, 1), (1, 2)]);
+    let e = |more: &[(u8, u8)]| files::written_e(&[&files::E_PAIRS, more].concat());
+    let one = files::written(&[("A", 7)], &[]);
+    let chain = files::written(&[("A", 1), ("B", 0), ("C", 4)], &[(0, 1), (1, 2)]);
     let plan = |parents: &[u8], weights: &[u32], sizes: &[u8], total| {
         let (parents, weights, sizes) = (parents.to_vec(), weights.to_vec(), sizes.to_vec());
         Ok(Plan { parents, weights, sizes, total })
     };
     let star: Vec<(u8, u8)> = (1..65).map(|lower| (0, lower)).collect();
-    let (most, too_many) = (numbered(64, 9, &star[..63]), numbered(65, 9, &star));
+    let (most, too_many) = (files::numbered(64, 9, &star[..63]), files::numbered(65, 9, &star));
     let line: Vec<(u8, u8)> = (1..64).map(|lower| (lower - 1, lower)).collect();
-    let chained = numbered(64, 65_535, &line);
+    let chained = files::numbered(64, 65_535, &line);
     let up_to: Vec<u8> = (0..64).map(|lower: u8| lower.saturating_sub(1)).collect();
     let (layers, in_layers) = two_layers();
     vec![
@@ -135,7 +111,7 @@ fn plans_by_hand() -> Vec<(&'static str, Vec<u8>, Result<Plan, u8>)> {
         ("its record without the last byte", one[..11].to_vec(), Err(3)),
         ("one label with 7 accounts", one, plan(&[0], &[7], &[1], 7)),
         ("E", e(&[]), plan(&[0, 0, 0, 2], &[2, 3, 5, 7], &[1, 2, 1, 1], 17)),
-        ("E without its last two pairs", written_e(&E_PAIRS[..2]), Err(10)),
+        ("E without its last two pairs", files::written_e(&files::E_PAIRS[..2]), Err(10)),
         ("E, added pair 3-3", e(&[(3, 3)]), Err(9)),
         ("E, added pair 3-4", e(&[(3, 4)]), Err(8)),
         ("chain A 1, B 0, C 4", chain, plan(&[0, 0, 0], &[1, 0, 4], &[1, 2, 1], 5)),
@@ -149,9 +125,9 @@ fn plans_by_hand() -> Vec<(&'static str, Vec<u8>, Result<Plan, u8>)> {
 /// Document 01's trees, and the limits: a policy, what stands in the tree file, and the answer. The last is the
 /// largest total there is: 65,535 accounts at each of 64 labels in a chain, holding 1, 63, 62, .. 1 keys.
 fn trees_by_hand() -> Vec<(Vec<u8>, Vec<u8>, Result<(u32, bool), u8>)> {
-    let e = written_e(&E_PAIRS);
-    let refused = written_e(&E_PAIRS[..2]);
-    let chain = written(&[("A", 1), ("B", 0), ("C", 4)], &[(0, 1), (1, 2)]);
+    let e = files::written_e(&files::E_PAIRS);
+    let refused = files::written_e(&files::E_PAIRS[..2]);
+    let chain = files::written(&[("A", 1), ("B", 0), ("C", 4)], &[(0, 1), (1, 2)]);
     let line: Vec<(u8, u8)> = (1..64).map(|lower| (lower - 1, lower)).collect();
     let tree = |parents: &[u8]| [b"TR", parents].concat();
     vec![
@@ -171,10 +147,10 @@ fn trees_by_hand() -> Vec<(Vec<u8>, Vec<u8>, Result<(u32, bool), u8>)> {
         (e.clone(), b"EN\x09\x09".to_vec(), Err(2)),
         (refused.clone(), tree(&[0, 0, 0, 2]), Err(10)),
         (refused, Vec::new(), Err(10)),
-        (written(&[("A", 7)], &[]), tree(&[0]), Ok((7, true))),
+        (files::written(&[("A", 7)], &[]), tree(&[0]), Ok((7, true))),
         (chain.clone(), tree(&[0, 0, 0]), Ok((5, true))),
         (chain, tree(&[0, 0, 1]), Ok((5, true))),
-        (numbered(64, 65_535, &line), tree(&[0; 64]), Ok((132_184_095, false))),
+        (files::numbered(64, 65_535, &line), tree(&[0; 64]), Ok((132_184_095, false))),
     ]
 }
 
@@ -194,7 +170,7 @@ pub fn by_hand(counts: &mut Counts) -> bool {
         asked.group.case(what, tree::weigh(&file, &offered), answer);
         asked.weigh(&file, &offered, answer);
     }
-    let e = written_e(&E_PAIRS);
+    let e = files::written_e(&files::E_PAIRS);
     asked.group.case(|| "E, second alone".to_string(), tree::text(&e), E_TEXT.as_bytes().to_vec());
     for room in 0..E_TEXT.len() + 9 {
         asked.text(&e, E_TEXT.as_bytes(), room);
@@ -292,23 +268,10 @@ pub fn every_tree_file(random: &mut Random, counts: &mut Counts) -> bool {
     asked.report()
 }
 
-/// A policy of any size and shape; each eighth is full, with 64 labels and 512 pairs.
-fn any_size(random: &mut Random, i: usize) -> Policy {
-    let most_labels = random.choose(&[8, 20, policy::MOST_LABELS]);
-    let labels = 1 + random.below(most_labels);
-    let more = random.choose(&[0, 3, 60, policy::MOST_PAIRS]);
-    match i {
-        0..=63 => files::shaped(random, i + 1, 512),
-        _ if i % 8 == 0 => files::shaped(random, 64, 512),
-        _ if i % 8 == 1 => files::any_policy(random),
-        _ => files::shaped(random, labels, more),
-    }
-}
-
 pub fn larger(random: &mut Random, counts: &mut Counts) -> bool {
     let mut asked = Asked::new("policies of up to 64 labels and 512 pairs, their trees and texts", counts);
     for i in 0..3000 {
-        let made = any_size(random, i);
+        let made = files::any_size(random, i);
         let (file, planned) = (made.to_bytes(), Planned::new(&made));
         asked.plan(&file, Ok(planned.plan.clone()));
         let least = least_parents(&planned);
@@ -368,7 +331,7 @@ fn every_byte(random: &mut Random, planned: &Planned) -> Vec<Vec<u8>> {
 pub fn tree_files(random: &mut Random, counts: &mut Counts) -> bool {
     let mut asked = Asked::new("tree files of every length to 70, with every byte, damaged", counts);
     for i in 0..600 {
-        let made = any_size(random, [0, 3, 12, 63].get(i).copied().unwrap_or(i));
+        let made = files::any_size(random, [0, 3, 12, 63].get(i).copied().unwrap_or(i));
         let (file, planned) = (made.to_bytes(), Planned::new(&made));
         let mut offered: Vec<Vec<u8>> = (0..24).map(|_| files::damaged_tree(random, &planned)).collect();
         if i % 10 == 0 {
@@ -384,27 +347,11 @@ pub fn tree_files(random: &mut Random, counts: &mut Counts) -> bool {
     asked.report()
 }
 
-/// A policy that is refused, with each refusal from 1 to 10 among them.
-fn refused_policy(random: &mut Random) -> (Vec<u8>, u8) {
-    loop {
-        let length = random.below(3000);
-        let file = match random.below(40) {
-            0 => Vec::new(),
-            1 => files::noise(random, length),
-            2 => files::overfull(random),
-            _ => files::damaged(random),
-        };
-        if let Err(number) = policy::read(&file) {
-            return (file, number);
-        }
-    }
-}
-
 pub fn refused(random: &mut Random, counts: &mut Counts) -> bool {
     let mut asked = Asked::new("refused policies: plans, trees of every kind and texts", counts);
     for _ in 0..6000 {
-        let (file, number) = refused_policy(random);
-        let other = any_size(random, 100);
+        let (file, number) = files::refused_policy(random);
+        let other = files::any_size(random, 100);
         let planned = Planned::new(&other);
         asked.plan(&file, Err(number));
         let plans: Vec<usize> = planned.plan.parents.iter().map(|parent| *parent as usize).collect();
@@ -427,7 +374,7 @@ pub fn refused(random: &mut Random, counts: &mut Counts) -> bool {
 pub fn rooms(random: &mut Random, counts: &mut Counts) -> bool {
     let mut asked = Asked::new("texts into buffers of every length", counts);
     for i in [0, 1, 3, 7, 20, 63] {
-        let file = any_size(random, i).to_bytes();
+        let file = files::any_size(random, i).to_bytes();
         let text = tree::text(&file);
         for room in 0..text.len() + 70 {
             asked.text(&file, &text, room);
@@ -435,7 +382,7 @@ pub fn rooms(random: &mut Random, counts: &mut Counts) -> bool {
         asked.text(&file, &text, 65_536);
     }
     for _ in 0..200 {
-        let (file, number) = refused_policy(random);
+        let (file, number) = files::refused_policy(random);
         for room in 0..30 {
             asked.text(&file, &tree::refused_text(number), room);
         }

@@ -5,7 +5,7 @@ use planner::plan_policy;
 use planner::weigh;
 
 // Policy E of document 01.
-fn e() -> [u8; 64] {
+pub(crate) fn e() -> [u8; 64] {
     *b"LBSUITE   \x00\x02LBCURVES  \x00\x03LBCONV32  \x00\x05LBACCRUED \x00\x04OV\x00\x01OV\x00\x02OV\x01\x03OV\x02\x03"
 }
 

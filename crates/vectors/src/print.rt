@@ -1,4 +1,7 @@
 // One line for each answer.
+use desk::Derived;
+use issuer::Issued;
+use issuer::IssuerKey;
 use planner::Plan;
 use planner::Weighed;
 use policy::Policy;
@@ -14,10 +17,10 @@ fn refused(number: u8) {
     io::print_decimal(1, wide(number));
 }
 
-// The first `count` bytes of a digest in hexadecimal.
-fn hexadecimal(bytes: [u8; 32], count: usize) {
+// The first `count` bytes in hexadecimal.
+fn hexadecimal(bytes: &[u8], count: usize) {
     let mut i = 0;
-    while i < 32 {
+    while i < bytes.len() {
         if i < count {
             io::print_hex(1, wide(bytes[i]), 2);
         }
@@ -31,7 +34,7 @@ pub(crate) fn digest_part(name: &[u8], d: Digest, count: usize) {
     io::write_all(1, b": ");
     if d.refusal == 0 {
         let bytes = d.bytes;
-        hexadecimal(bytes, count);
+        hexadecimal(&bytes, count);
     } else {
         refused(d.refusal);
     }
@@ -107,6 +110,48 @@ pub(crate) fn weighed(name: &[u8], w: Weighed) {
         }
     } else {
         refused(w.refusal);
+    }
+    io::write_all(1, b"\n");
+}
+
+// The case's name, and the key or the refusal.
+pub(crate) fn key(name: &[u8], k: IssuerKey) {
+    io::write_all(1, name);
+    io::write_all(1, b": ");
+    if k.refusal == 0 {
+        let bytes = k.key;
+        hexadecimal(&bytes, 32);
+    } else {
+        refused(k.refusal);
+    }
+    io::write_all(1, b"\n");
+}
+
+// The case's name, and the envelope's length and bytes, or the refusal.
+pub(crate) fn envelope(name: &[u8], i: Issued, buffer: [u8; 128]) {
+    io::write_all(1, name);
+    io::write_all(1, b": ");
+    if i.refusal == 0 {
+        io::print_decimal(1, i.length as u64);
+        io::write_all(1, b" bytes, ");
+        hexadecimal(&buffer, i.length);
+    } else {
+        refused(i.refusal);
+    }
+    io::write_all(1, b"\n");
+}
+
+// The case's name, and the number of applications and the key, or the refusal.
+pub(crate) fn derived(name: &[u8], d: Derived) {
+    io::write_all(1, name);
+    io::write_all(1, b": ");
+    if d.refusal == 0 {
+        io::print_decimal(1, wide(d.applications));
+        io::write_all(1, b" applications, ");
+        let bytes = d.key;
+        hexadecimal(&bytes, 32);
+    } else {
+        refused(d.refusal);
     }
     io::write_all(1, b"\n");
 }

@@ -1,19 +1,20 @@
 use Prim.Native.Nat.{_≤_, _-_}
+use lib.ListN.{length}
 use borrow.Author.Needs.{needs}
 use Rattle.vectors.proofs.print.hexadecimal.Statement.{statement}
 use Rattle.vectors.proofs.print.hexadecimal.Tie as tie
 
 abbrev Inv-loop : tie.InvT-loop
-Inv-loop count bytes i₀ i = i ≤ 32
+Inv-loop bytes count i₀ i = i ≤ length bytes
 
 abbrev μ-loop : tie.MeasureT-loop
-μ-loop count bytes i₀ i = 32 - i
+μ-loop bytes count i₀ i = length bytes - i
 
 loop-holds : tie.Need-loop-holds Inv-loop μ-loop
 loop-holds c = search needs
 
-array-read-wide : tie.Need-array-read-wide Inv-loop μ-loop
-array-read-wide c = search needs
+shared-slice-read-wide : tie.Need-shared-slice-read-wide Inv-loop μ-loop
+shared-slice-read-wide c = search needs
 
 wide-requires : tie.Need-wide-requires Inv-loop μ-loop
 wide-requires c κs = search needs
@@ -40,7 +41,7 @@ hexadecimal-spec =
     Inv-loop
     μ-loop
     loop-holds
-    array-read-wide
+    shared-slice-read-wide
     wide-requires
     print-hex-requires
     add-i

@@ -1,6 +1,5 @@
--- Laws of labels that hang from parents of smaller numbers, of their secrets, and of the table of places.
+-- Laws of labels that hang from parents of smaller numbers, and of their secrets.
 use Prim.Native.Nat.{ℕ, _≤_, _<_}
-use mathlib.Core.Bool.{Bool}
 use mathlib.Core.List.{List}
 use mathlib.Core.Logic.{_⊎_, inl, inr, _≢_}
 use mathlib.Core.Path.{_≡_, sym, ap, ap₂, _∙_}
@@ -8,14 +7,10 @@ use native.Mathlib.Omega.{arith}
 use Rattle.hmac.specs.Secrets.{childSecret}
 use Rattle.trees.specs.Trees.{top}
 use Rattle.trees.proofs.Order.{is-top}
-use Rattle.lists.specs.Tables.{filled}
-use Rattle.order.specs.Table.{atOrBelow}
-use Rattle.weights.specs.Tables.{entries}
-use Rattle.weights.proofs.Reading.{entries-filled}
-use Rattle.envelopes.specs.Envelope.{placeBelow}
+use Rattle.weights.specs.Tables.{entries, Rowed}
 use Rattle.envelopes.specs.Secrets.{secretOf}
 use Rattle.envelopes.proofs.Secrets.{Falls, secret-top, secret-child}
-use Rattle.writer.specs.Asks.{Hung, Placed}
+use Rattle.writer.specs.Asks.{Hung}
 
 module _ {file parents : List ℕ} {labels : ℕ} (h : Hung file parents labels) where
   -- fewer labels hang as well
@@ -28,7 +23,7 @@ module _ {file parents : List ℕ} {labels : ℕ} (h : Hung file parents labels)
   }
 
   -- every parent has a row
-  pub hung-row : (m : ℕ) → m < labels → entries parents m < 64
+  pub hung-row : Rowed labels parents
   hung-row m k = go (is-top m)
     where
       go : (m ≡ top) ⊎ (m ≢ top) → entries parents m < 64
@@ -43,11 +38,3 @@ module _ (name : ℕ → List ℕ) (parent : ℕ → ℕ) (root : List ℕ) (m :
   pub secret-made : m ≢ top → Falls parent m → (above own : List ℕ) → above ≡ secretOf name parent root (parent m) → own ≡ name m
       → childSecret above own ≡ secretOf name parent root m
   secret-made ne falls above own a n = ap₂ childSecret a n ∙ sym (secret-child name parent root m ne falls)
-
--- the table of places
-module _ {rows : List (List Bool)} {l : ℕ} {places : List ℕ} {labels : ℕ} where
-  pub placed-filled : places ≡ filled 64 0 (placeBelow (atOrBelow rows) l) labels → Placed rows l places labels
-  placed-filled e = record { place = λ i h. ap (λ (t : List ℕ). entries t i) e ∙ entries-filled (placeBelow (atOrBelow rows) l) labels i h }
-
-  pub placed-fewer : Placed rows l places labels → (n : ℕ) → n ≤ labels → Placed rows l places n
-  placed-fewer p n h = record { place = λ i k. p .place i (omega arith) }

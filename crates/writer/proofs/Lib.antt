@@ -1,3 +1,4 @@
 pub mod Parts
 pub mod Hanging
+pub mod Marks
 pub mod Recorded

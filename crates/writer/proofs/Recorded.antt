@@ -1,20 +1,25 @@
--- Laws of one label's record, and of the records and places of the labels below a number with one label more.
+-- Laws of one label's record, also from the tables, and of the records and places of the labels below a number with one label more.
 use Prim.Native.Nat.{ℕ, zero, suc, _+_, _≤_, _<_}
 use mathlib.Core.Bool.{Bool, true, false, cond, false≢true}
 use mathlib.Core.List.{List, [], _++_}
 use mathlib.Core.Logic.{⊎-elim, _≢_}
-use mathlib.Core.Path.{_≡_, sym, ap, ap₂, _∙_}
+use mathlib.Core.Path.{_≡_, refl, sym, ap, _∙_}
 use native.Mathlib.Nat.{eq-or-lt-of-le}
 use native.Mathlib.Numerals.{add-one}
 use native.Mathlib.Omega.{arith}
 use borrow.Author.Tests.{eq-eqb}
 use lib.ListN.{length, length-append}
+use Rattle.lists.specs.Tables.{filled}
+use Rattle.lists.proofs.Tables.{getD-filled}
 use Rattle.trees.specs.Trees.{top}
 use Rattle.trees.specs.Weights.{inSmallest}
+use Rattle.weights.specs.Tables.{entries}
+use Rattle.weights.proofs.Reading.{entries-filled}
 use Rattle.envelopes.specs.Secrets.{secretOf}
 use Rattle.envelopes.specs.Envelope.{heldRecord, underRecord, header, placeBelow, recordOf, recordsBelow, envelopeOf}
 use Rattle.envelopes.proofs.Places.{place-here, place-skip}
 use Rattle.envelopes.proofs.Written.{records-here, records-skip}
+use Rattle.writer.specs.Asks.{Falling, marked, secretIn, Made}
 
 module _ (le : ℕ → ℕ → Bool) (l m k : ℕ) (e : k ≡ placeBelow le l m) where
   -- the next label's place, label m being at or below l or not
@@ -30,16 +35,25 @@ pub under-other : (le : ℕ → ℕ → Bool) (parent : ℕ → ℕ) (l m : ℕ)
 unfolding inSmallest
 under-other le parent l m held y e f q = false≢true (sym f ∙ e ∙ rw (y, eq-eqb m top q))
 
+-- a record, by whether the secret is held
+module _ (own name secret : List ℕ) (place : ℕ) (held : Bool) (n : own ≡ name) where
+  abbrev either : Bool → List ℕ
+  either h = cond h (heldRecord name secret) (underRecord name place)
+
+  pub held-record : held ≡ true → heldRecord own secret ≡ cond held (heldRecord name secret) (underRecord name place)
+  held-record t = ap (λ (s : List ℕ). heldRecord s secret) n ∙ ap either (sym t)
+
+  pub under-record : held ≡ false → underRecord own place ≡ cond held (heldRecord name secret) (underRecord name place)
+  under-record f = ap (λ (s : List ℕ). underRecord s place) n ∙ ap either (sym f)
+
 module _ (name : ℕ → List ℕ) (le : ℕ → ℕ → Bool) (parent : ℕ → ℕ) (root : List ℕ) (l : ℕ) where
   -- the record of label m, by whether it is in the smallest set
-  module _ (m : ℕ) (held : Bool) (e : held ≡ inSmallest le parent l m) (own : List ℕ) (n : own ≡ name m) where
-    pub held-record : held ≡ true → (secret : List ℕ) → secret ≡ secretOf name parent root m → heldRecord own secret ≡ recordOf name le parent root l m
-    unfolding recordOf
-    held-record t secret s = ap₂ heldRecord n s ∙ rw (sym e ∙ t)
-
-    pub under-record : held ≡ false → (place : ℕ) → place ≡ placeBelow le l (parent m) → underRecord own place ≡ recordOf name le parent root l m
-    unfolding recordOf
-    under-record f place p = ap₂ underRecord n p ∙ rw (sym e ∙ f)
+  pub record-made : (m : ℕ) (held : Bool) (secret : List ℕ) (place : ℕ) → held ≡ inSmallest le parent l m
+      → (held ≡ true → secret ≡ secretOf name parent root m) → (held ≡ false → place ≡ placeBelow le l (parent m))
+      → cond held (heldRecord (name m) secret) (underRecord (name m) place) ≡ recordOf name le parent root l m
+  unfolding recordOf
+  record-made m true secret place e s p = ap (heldRecord (name m)) (s refl) ∙ rw (sym e)
+  record-made m false secret place e s p = ap (underRecord (name m)) (p refl) ∙ rw (sym e)
 
   -- the records, label m being at or below l or not
   pub records-more : (m : ℕ) → le m l ≡ true
@@ -67,3 +81,20 @@ module _ (name : ℕ → List ℕ) (le : ℕ → ℕ → Bool) (parent : ℕ →
   pub envelope-parts : (n account : ℕ) (own : List ℕ) → own ≡ name l → header account own ++ recordsBelow name le parent root l n ≡ envelopeOf name le parent root l n account
   unfolding envelopeOf
   envelope-parts n account own e = ap (λ (s : List ℕ). header account s ++ recordsBelow name le parent root l n) e
+
+-- the same record from the tables of held labels, of secrets and of places
+module _ (le : ℕ → ℕ → Bool) (l : ℕ) {name : ℕ → List ℕ} {parents root : List ℕ} {labels : ℕ} {held : List Bool} {secrets : List (List ℕ)} {places : List ℕ}
+    (h : held ≡ filled 64 false (inSmallest le (entries parents) l) labels) (d : Made name parents root held secrets labels)
+    (p : places ≡ filled 64 0 (placeBelow le l) labels) (falls : Falling parents labels) where
+  pub table-record : (m : ℕ) → m < labels → le m l ≡ true
+      → cond (marked held m) (heldRecord (name m) (secretIn secrets m)) (underRecord (name m) (entries places (entries parents m)))
+      ≡ recordOf name le (entries parents) root l m
+  table-record m lt y = record-made name le (entries parents) root l m (marked held m) (secretIn secrets m) (entries places (entries parents m)) is (d .secret m lt) place
+    where
+      is : marked held m ≡ inSmallest le (entries parents) l m
+      is = ap (λ (t : List Bool). marked t m) h ∙ getD-filled (inSmallest le (entries parents) l) 64 false labels m false lt
+
+      place : marked held m ≡ false → entries places (entries parents m) ≡ placeBelow le l (entries parents m)
+      place f =
+          let up : entries parents m < m = falls m lt (under-other le (entries parents) l m (marked held m) y is f) in
+          ap (λ (t : List ℕ). entries t (entries parents m)) p ∙ entries-filled (placeBelow le l) labels (entries parents m) (omega arith)

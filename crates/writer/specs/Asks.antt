@@ -1,22 +1,38 @@
--- What the functions that write an envelope ask of the policy's labels and of the tables.
+-- What the functions that write an envelope ask of the policy's labels, and what their tables say.
 use Prim.Native.Nat.{ℕ, _*_, _≤_, _<_}
-use mathlib.Core.Bool.{Bool}
-use mathlib.Core.List.{List}
+use mathlib.Core.Bool.{Bool, true, false}
+use mathlib.Core.List.{List, []}
 use mathlib.Core.Logic.{_≢_}
 use mathlib.Core.Path.{_≡_}
-use lib.ListN.{length}
-use Rattle.order.specs.Table.{atOrBelow}
+use lib.ListN.{length, getD}
 use Rattle.trees.specs.Trees.{top}
 use Rattle.weights.specs.Tables.{entries}
-use Rattle.envelopes.specs.Envelope.{placeBelow}
+use Rattle.envelopes.specs.Secrets.{secretOf}
 
--- so many labels lie within the file, and each but the top has a parent of a smaller number
+-- each of so many labels but the top has a parent of a smaller number
+abbrev pub Falling : (parents : List ℕ) (labels : ℕ) → Type 0
+Falling parents labels = (m : ℕ) → m < labels → m ≢ top → entries parents m < m
+
+-- and they lie within the file
 pub record Hung (file parents : List ℕ) (labels : ℕ) : Type 0 where
   pub few : labels ≤ 64
   pub within : 12 * labels ≤ length file
-  pub falls : (m : ℕ) → m < labels → m ≢ top → entries parents m < m
+  pub falls : Falling parents labels
   pub under : entries parents top < 64
 
--- the table says how many labels at or below l stand before each of the labels below m
-pub record Placed (rows : List (List Bool)) (l : ℕ) (places : List ℕ) (m : ℕ) : Type 0 where
-  pub place : (i : ℕ) → i < m → entries places i ≡ placeBelow (atOrBelow rows) l i
+-- whether a table of marks has label m marked
+abbrev pub marked : List Bool → ℕ → Bool
+marked marks m = getD marks m false
+
+-- the held labels are marked as needed, and so is the parent of each needed label of number `from` or more
+pub record Needed (held needed : List Bool) (parents : List ℕ) (from labels : ℕ) : Type 0 where
+  pub kept : (m : ℕ) → marked held m ≡ true → marked needed m ≡ true
+  pub above : (m : ℕ) → from ≤ m → m < labels → marked needed m ≡ true → marked needed (entries parents m) ≡ true
+
+-- a table of secrets by label
+abbrev pub secretIn : List (List ℕ) → ℕ → List ℕ
+secretIn secrets m = getD secrets m []
+
+-- the table has the secret of each marked label
+pub record Made (name : ℕ → List ℕ) (parents root : List ℕ) (marks : List Bool) (secrets : List (List ℕ)) (labels : ℕ) : Type 0 where
+  pub secret : (m : ℕ) → m < labels → marked marks m ≡ true → secretIn secrets m ≡ secretOf name (entries parents) root m

@@ -8,7 +8,6 @@ use Rattle.order.specs.Table.{atOrBelow}
 use Rattle.policy.specs.File.{nameOf}
 use Rattle.weights.specs.Tables.{entries}
 use Rattle.envelopes.specs.Envelope.{header, recordsBelow}
-use Rattle.writer.proofs.Hanging.{placed-filled}
 use Rattle.writer.proofs.Parts.{put-as}
 use Rattle.writer.proofs.Recorded.{envelope-parts}
 use Rattle.writer.proofs.write_envelope.Statement.{statement}
@@ -18,8 +17,8 @@ returns : tie.Need-returns
 unfolding nameOf
 returns c =
     let r = c .before .before in
-    let h = r .before .before .before .before .before in
-    let n = h .before .before .before in
+    let h = r .before .before .before .before in
+    let n = h .before .before in
     let a = n .before .before .before .args in
     let parts =
     envelope-parts (nameOf (a .policy .now)) (atOrBelow (a .rows .now)) (entries (a .parents .now)) (a .root) (a .l) (a .labels) (a .account)
@@ -35,13 +34,10 @@ add-read-name c = search needs
 read-name-requires : tie.Need-read-name-requires
 read-name-requires c κs = search needs
 
-places-requires : tie.Need-places-requires
-places-requires c κs = search needs
-
 put-header-requires : tie.Need-put-header-requires
 unfolding nameOf
 put-header-requires c κs =
-    let n = c .before .before in
+    let n = c .before in
     let s = n .before .before .before in
     let a = s .args in
     let name = nameOf (a .policy .now) in
@@ -54,8 +50,8 @@ put-header-requires c κs =
 put-records-requires : tie.Need-put-records-requires
 unfolding nameOf
 put-records-requires c κs =
-    let h = c .before .before .before .before in
-    let n = h .before .before .before in
+    let h = c .before .before .before in
+    let n = h .before .before in
     let s = n .before .before .before in
     let a = s .args in
     let name = nameOf (a .policy .now) in
@@ -65,7 +61,6 @@ put-records-requires c κs =
     let parts = envelope-parts name le parent (a .root) (a .l) (a .labels) (a .account) own (n .read-name .ensures) in
     let both = length-append (header (a .account) own) (recordsBelow name le parent (a .root) (a .l) (a .labels)) in (
       s .pre .0,
-      placed-filled (h .before .before .places .ensures),
       omega (arith, s .pre .0 .few),
       omega (arith, s .pre .2, ap length parts, both, h .put-header .ensures .behind),
     )
@@ -80,7 +75,6 @@ write-envelope-spec =
     mul-read-name
     add-read-name
     read-name-requires
-    places-requires
     put-header-requires
     put-records-requires
     same-length

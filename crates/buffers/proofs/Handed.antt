@@ -2,7 +2,7 @@
 use Prim.Native.Nat.{ℕ, _+_, _≤_, _<_}
 use mathlib.Core.Bool.{Bool, true, false}
 use mathlib.Core.List.{List}
-use mathlib.Core.Path.{_≡_, refl, sym}
+use mathlib.Core.Path.{_≡_, refl, sym, ap, _∙_}
 use native.Mathlib.Omega.{arith}
 use borrow.Author.Tests.{le-leb, lt-leb, leb-true}
 use lib.Dec.{leb}
@@ -10,7 +10,9 @@ use lib.ListN.{length, take, drop, length-append, length-drop}
 use lib.Seq.{take-at}
 use Rattle.lists.specs.Buffer.{pasted}
 use Rattle.buffers.specs.Handed.{handed, handedInto}
+use Rattle.buffers.specs.Put.{Put}
 use Rattle.buffers.specs.declared.Written.{Written}
+use Rattle.buffers.proofs.Writes.{put-front}
 
 abbrev answer : (refusal size : ℕ) → Written
 answer refusal size = record { refusal = refusal; length = size }
@@ -57,3 +59,14 @@ module _ (s out : List ℕ) where
           let room = leb-true (length s) (length out) t in
           rw (e, f, t) (omega (arith, pasted-length room, room))
       go false t = rw (e, f, t) (omega arith)
+
+-- what a writer put at the front of a buffer of its own, handed out from there
+module _ {d e s : List ℕ} {r : ℕ} (put : Put d e 0 s r) where
+  pub front-length : r ≡ length (take r e)
+  front-length = omega (arith, put .behind, ap length (put-front put))
+
+  pub front-handed : (room : ℕ) {w : Written} → w ≡ handed (take r e) room → w ≡ handed s room
+  front-handed room h = h ∙ ap (λ (t : List ℕ). handed t room) (put-front put)
+
+  pub front-left : (out : List ℕ) {after : List ℕ} → after ≡ handedInto (take r e) out → after ≡ handedInto s out
+  front-left out h = h ∙ ap (λ (t : List ℕ). handedInto t out) (put-front put)

@@ -1,9 +1,10 @@
 -- Laws of writes into a buffer.
 use Prim.Native.Nat.{ℕ, _+_, _≤_}
-use mathlib.Core.List.{List, [], _++_}
-use mathlib.Core.Path.{_≡_, refl, ap, _∙_}
+use mathlib.Core.List.{List, [], _++_, append-nil}
+use mathlib.Core.Path.{_≡_, ap, _∙_}
+use native.Mathlib.Nat.{add-zero}
 use native.Mathlib.Omega.{arith}
-use lib.ListN.{length, take, drop, length-append, length-drop}
+use lib.ListN.{length, take, drop, length-append, length-drop, take-append-drop}
 use lib.Seq.{take-at, length-take-le}
 use Rattle.lists.proofs.Pasted.{pasted-adjacent}
 use Rattle.lists.specs.Buffer.{pasted}
@@ -24,10 +25,13 @@ put-next {d} {e} {f} {s} {t} {at} {q} {r} a b =
       written = b .written ∙ rw (a .behind, a .written) (pasted-adjacent d at s t room);
     }
 
--- nothing written at the start
-pub put-none : (d : List ℕ) → Put d d 0 [] 0
+-- nothing written, anywhere and at the start
+pub put-nothing : (d : List ℕ) (at : ℕ) → at ≤ length d → Put d d at [] at
 unfolding pasted
-put-none d = record { fits = omega arith; behind = refl; written = refl }
+put-nothing d at h = record { fits = omega arith; behind = omega arith; written = rw (append-nil, add-zero, take-append-drop) }
+
+pub put-none : (d : List ℕ) → Put d d 0 [] 0
+put-none d = put-nothing d 0 (omega arith)
 
 -- what is written at the start stands there
 pub put-front : {d e s : List ℕ} {r : ℕ} → Put d e 0 s r → take r e ≡ s

@@ -15,6 +15,7 @@ use Rattle.planner.specs.declared.Weighed.{Weighed}
 use Rattle.policy.proofs.Demand1.{refusal-1, refusal-2, refusal-3, refusal-4, refusal-5, refusal-6, refusal-7, refusal-8, refusal-9, refusal-10, accepted-iff, read-or-refused, refused-zeros}
 use Rattle.policy.specs.Whole.{refusalOf, labelsOf, Accepted}
 use Rattle.policy.proofs.Front.{front-answers}
+use Rattle.policy.proofs.Stopping.{read-before-refused}
 use Rattle.claims.specs.Demand1.{Demand1, Demand1OfTree}
 
 pub demand1 : (file : List ℕ) → Demand1 file
@@ -33,7 +34,8 @@ demand1 file = record {
   not-above = refusal-9 file;
   unplaced = refusal-10 file;
   accepted = accepted-iff file;
-  front = front-answers file;
+  read-before = λ labels pairs n passes row. read-before-refused file passes row;
+  front = front-answers 2828 (omega arith) file;
 }
 
 module _ (policy tree : List ℕ) where

@@ -1,7 +1,9 @@
 -- Demand 1 for key envelopes and the desk, shown for every list of bytes.
 use Prim.Native.Nat.{ℕ}
 use mathlib.Core.List.{List}
+use Rattle.desk.proofs.Counted.{read-before}
 use Rattle.desk.proofs.Demand1.{refusal-17, refusal-2, refusal-3, refusal-5, refusal-6, refusal-7, refusal-18, refusal-19, accepted-iff, read-or-refused, derived-refused, derived-20, derived-zeros}
+use Rattle.desk.proofs.Labelled.{labels-refusal, labels-zeros, label-names}
 use Rattle.desk.proofs.Paths.{applications-path}
 use Rattle.claims.specs.Demand1Desk.{Demand1OfEnvelope}
 
@@ -17,8 +19,12 @@ demand1-of-envelope file = record {
   no-holder = refusal-18 file;
   late-place = refusal-19 file;
   accepted = accepted-iff file;
+  read-before = λ k n header passes row. read-before file header passes row;
   envelope-first = λ name. derived-refused file name;
   not-in = λ name. derived-20 file name;
   zeros = λ name. derived-zeros file name;
   derived = λ name. applications-path file name;
+  labels-refusal = labels-refusal file;
+  labels-zeros = labels-zeros file;
+  labels-named = label-names file;
 }

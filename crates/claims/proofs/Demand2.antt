@@ -8,8 +8,10 @@ use Rattle.buffers.proofs.Handed.{left-room}
 use Rattle.desk.proofs.Paths.{applications-path}
 use Rattle.desk.specs.Derive.{derivedOf}
 use Rattle.desk.specs.declared.Derived.{Derived}
+use Rattle.desk.specs.declared.Labels.{Labels as Listed}
 use Rattle.envelopes.proofs.Held.{held-secrets, held-names}
 use Rattle.envelopes.proofs.Length.{envelope-length, envelope-short, accounts-length, accounts-alike}
+use Rattle.envelopes.proofs.Names.{reads-labels, names-label}
 use Rattle.envelopes.proofs.Opens.{opens, refuses}
 use Rattle.envelopes.proofs.Read.{is-accepted}
 use Rattle.envelopes.proofs.Secrets.{tree-falls, secret-top, secret-child}
@@ -103,6 +105,8 @@ module _ (file : List ℕ) (ok : Accepted file) where
         opens = opened;
         path = λ m hm r. applications-path written (nameOf file m) (ap (λ (d : Derived). d .refusal) (opened m hm r));
         refuses = refuses labels for;
+        labels = ap (λ (a : Listed). a .labels) (reads-labels labels for);
+        label-names = names-label labels for;
         secrets = held-secrets labels for;
         names = held-names labels for;
         sufficient = smallest-sufficient (policy-order file ok) (plan-answer-tree file ok) hl;

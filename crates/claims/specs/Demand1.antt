@@ -1,7 +1,7 @@
 -- Demand 1 for policy files and tree files: "Every policy file, tree file or key envelope, be it empty, cut short or noise, is either read or
 -- refused under a number from the list. A refusal yields zeros beside the number and changes nothing in lent memory." The rows of 01's table
 -- stand in words in the policy crate's specs/Rows.antt and in the planner crate's specs/TreeRows.antt.
-use Prim.Native.Nat.{ℕ, _≤_, _<_}
+use Prim.Native.Nat.{ℕ, _+_, _≤_, _<_}
 use mathlib.Core.List.{List}
 use mathlib.Core.Logic.{_↔_, _⊎_}
 use mathlib.Core.Path.{_≡_}
@@ -10,8 +10,8 @@ use Rattle.order.specs.Order.{AtOrBelow}
 use Rattle.planner.specs.Planned.{planOf, refusedPlan}
 use Rattle.planner.specs.TreeRows.{NoTreeMark, OtherLength, NoParent, GivesTree}
 use Rattle.planner.specs.Weighing.{refusedWeighed, weighOf}
-use Rattle.policy.specs.Rows.{NoMark, CutShort, LateLabel, TooMany, BadName, NameCarried, NoSuchLabel, NotAbove, Unplaced, NoneRefuses, Reached, refusedPolicy}
-use Rattle.policy.specs.Whole.{refusalOf, labelsOf, pairCount, pairsOf, Accepted, policyOf}
+use Rattle.policy.specs.Rows.{Passes, RefusedAt, NoMark, CutShort, LateLabel, TooMany, BadName, NameCarried, NoSuchLabel, NotAbove, Unplaced, NoneRefuses, Reached, refusedPolicy}
+use Rattle.policy.specs.Whole.{refusalOf, labelsOf, pairCount, pairsOf, recordsRead, Accepted, policyOf}
 
 pub record Demand1 (file : List ℕ) : Type 0 where
   -- "either read or refused under a number from the list"; an accepted file's number is 0, so never both
@@ -32,6 +32,8 @@ pub record Demand1 (file : List ℕ) : Type 0 where
   pub unplaced : (refusalOf file ≡ 10) ↔ Reached file Unplaced
   -- "A policy that none of its own checks refuses is accepted."
   pub accepted : Accepted file ↔ NoneRefuses file (labelsOf file) (pairCount file)
+  -- `records_read`: how many records stand before the refused one
+  pub read-before : (labels pairs n : ℕ) → Passes file labels pairs → RefusedAt file labels pairs n → recordsRead file ≡ labels + pairs
   -- The answer for a file is that for its first 2,828 bytes.
   pub front : policyOf file ≡ policyOf (take 2828 file)
 

@@ -8,12 +8,15 @@ use Rattle.issuer.specs.Issue.{refusedIssue, issuedOf, bufferAfter}
 use Rattle.issuer.specs.Keys.{refusedKey, issuerKeyOf}
 use Rattle.issuer.specs.Rows.{KeyAnswered, IssueAnswered}
 
+-- the number answered is that of a row that holds, and a row that holds is answered by its number
 pub record Demand1OfKey (policy name root : List ℕ) : Type 0 where
   pub answered : KeyAnswered policy name root (issuerKeyOf policy name root .refusal)
+  pub only : (n : ℕ) → KeyAnswered policy name root n → issuerKeyOf policy name root .refusal ≡ n
   pub zeros : 0 < issuerKeyOf policy name root .refusal → issuerKeyOf policy name root ≡ refusedKey (issuerKeyOf policy name root .refusal)
 
 pub record Demand1OfIssue (policy name : List ℕ) (account : ℕ) (root out : List ℕ) : Type 0 where
   pub answered : IssueAnswered policy name account root (length out) (issuedOf policy name account root (length out) .refusal)
+  pub only : (n : ℕ) → IssueAnswered policy name account root (length out) n → issuedOf policy name account root (length out) .refusal ≡ n
   pub zeros : 0 < issuedOf policy name account root (length out) .refusal
       → issuedOf policy name account root (length out) ≡ refusedIssue (issuedOf policy name account root (length out) .refusal)
   pub unchanged : 0 < issuedOf policy name account root (length out) .refusal → bufferAfter policy name account root out ≡ out

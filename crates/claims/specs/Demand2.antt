@@ -9,8 +9,10 @@ use mathlib.Core.Path.{_≡_}
 use lib.ListN.{length, getD, drop}
 use Rattle.desk.specs.Derive.{refusedDerived, derivedOf}
 use Rattle.desk.specs.File.{accountIn}
+use Rattle.desk.specs.Labels.{labelsOf}
 use Rattle.desk.specs.Rows.{DerivedBy}
 use Rattle.desk.specs.Whole.{Accepted}
+use Rattle.format.specs.Bytes.{bytesAt}
 use Rattle.envelopes.specs.Envelope.{placeBelow, stepsTo, heldSecrets, heldNames}
 use Rattle.envelopes.specs.Secrets.{secretOf}
 use Rattle.hmac.specs.Hmac.{hmac}
@@ -64,6 +66,9 @@ pub record OfAccount (file root : List ℕ) (l account : ℕ) (written : List �
   pub path : (m : ℕ) → m < n file → R file m l → DerivedBy written (nameOf file m) (derivedOf written (nameOf file m))
   -- "and refuses every other label": every other byte string
   pub refuses : (asked : List ℕ) → ((m : ℕ) → m < n file → R file m l → asked ≢ nameOf file m) → derivedOf written asked ≡ refusedDerived 20
+  -- the labels that the desk reads in it are those at or below l, in policy order
+  pub labels : labelsOf written .labels ≡ placeBelow (le file) l (n file)
+  pub label-names : (m : ℕ) → m < n file → R file m l → bytesAt (labelsOf written .names) (8 * placeBelow (le file) l m) 8 ≡ nameOf file m
   -- the secrets in it are those of the smallest set, in policy order, and no others; from these labels, going down the tree, exactly those at or
   -- below l are reached
   pub secrets : heldSecrets written ≡ map (secret file root) (smallestSet file (parentOf file) l)

@@ -20,13 +20,13 @@ use Rattle.desk.specs.declared.Kind.{Kind}
 
 -- the header
 module _ (file : List ℕ) where
-  no-header : NoHeader file → headRefusal file ≡ 17
+  pub no-header : NoHeader file → headRefusal file ≡ 17
   unfolding headRefusal
   no-header (under-12 l) = rw (lt-ltb (length file) 12 l)
   no-header (other-mark h d) = rw (le-ltb (length file) 12 h, differ (bytesAt file 0 2) EN d)
   no-header (account-0 h m z) = rw (le-ltb (length file) 12 h, m, same-refl EN, eq-eqb (accountIn file) 0 z)
 
-  header-passes : Header file → headRefusal file ≡ 0
+  pub header-passes : Header file → headRefusal file ≡ 0
   unfolding headRefusal
   header-passes h =
       rw (le-ltb (length file) 12 (h .whole), h .mark, same-refl EN, ne-eqb (accountIn file) 0 (λ e. omega (arith, h .account)))

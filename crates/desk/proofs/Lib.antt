@@ -6,9 +6,13 @@ pub mod Asked
 pub mod Demand1
 pub mod Lawful
 pub mod Starts
+pub mod Names
+pub mod Labelled
 pub mod RecordTests
 pub mod Reading
+pub mod Counted
 pub mod Walks
 pub mod Deriving
 pub mod Paths
+pub mod Front
 pub mod Samples

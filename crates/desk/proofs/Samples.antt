@@ -10,8 +10,9 @@ use Rattle.format.specs.Search.{firstFrom}
 use Rattle.hmac.specs.Secrets.{childSecret, labelKey}
 use Rattle.desk.specs.Derive.{refusedDerived, walked, walkTo, derivedAt, recordAsked, derivedOf}
 use Rattle.desk.specs.File.{headName, startOf, isHeld, nameIn, secretIn, placeIn, carries, recordNamed}
+use Rattle.desk.specs.Labels.{nameByte, refusedLabels, labelsOf}
 use Rattle.desk.specs.Record.{nameRefusal, heldKind, underKind, markedKind, kindAt}
-use Rattle.desk.specs.Whole.{headRefusal, accepted, scanFrom, contentsOf, refusalOf}
+use Rattle.desk.specs.Whole.{headRefusal, accepted, scanFrom, contentsOf, refusalOf, countFrom, recordsRead}
 use Rattle.desk.specs.declared.Derived.{Derived}
 use Rattle.lists.specs.Tables.{listed}
 
@@ -68,6 +69,19 @@ pub starts : map contentsOf (chain ∷ both ∷ [])
     ∷ record { refusal = 0; records = 4; starts = 12 ∷ 54 ∷ 96 ∷ 107 ∷ replicate 60 0 } ∷ []
 unfolding sameBytes classOf padding formed someNoSpace wellFormed firstFrom headName startOf isHeld nameIn placeIn carries recordNamed nameRefusal heldKind underKind markedKind kindAt headRefusal accepted scanFrom contentsOf listed
 starts = refl
+
+-- how many records are read: none behind a header that is refused, none before a first that is refused, one before a second, three before a fourth, or all
+pub counts : map recordsRead
+    (header 0 (name 65) ∷ bare ∷ (bare ++ holds gap 7) ∷ (single ++ stands (name 65) 0) ∷ (chain ++ (75 ∷ [])) ∷ both ∷ [])
+    ≡ 0 ∷ 0 ∷ 0 ∷ 1 ∷ 3 ∷ 4 ∷ []
+unfolding sameBytes classOf padding formed someNoSpace wellFormed firstFrom headName startOf isHeld nameIn placeIn carries recordNamed nameRefusal heldKind underKind markedKind kindAt headRefusal countFrom recordsRead
+counts = refl
+
+-- account 1 and its labels A, B, C; with an envelope that is refused its number and zeros
+pub labels : map labelsOf (chain ∷ bare ∷ [])
+    ≡ record { refusal = 0; account = 1; labels = 3; names = name 65 ++ name 66 ++ name 67 ++ replicate 488 0 } ∷ refusedLabels 18 ∷ []
+unfolding sameBytes classOf padding formed someNoSpace wellFormed firstFrom headName startOf isHeld nameIn placeIn carries recordNamed nameRefusal heldKind underKind markedKind kindAt headRefusal accepted scanFrom contentsOf listed nameByte labelsOf
+labels = refl
 
 -- A after 1 application, B after 2, C after 3; 20 for a name that is not there and for 7 bytes; with an envelope that is refused its number
 -- comes before 20

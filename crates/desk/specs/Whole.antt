@@ -42,6 +42,10 @@ unfoldable pub scanFrom : ℕ → List ℕ → ℕ → Contents
 scanFrom zero file k = refused 5
 scanFrom (suc n) file k = onKind (scanFrom n file) file k (kindAt file k)
 
+-- the answer that a reader's result stands for: with a refusal the records read before it are left out
+abbrev pub settled : Contents → Contents
+settled read = cond (eqb (read .refusal) 0) read (refused (read .refusal))
+
 -- what an envelope has; 64 records and one more are always enough
 unfoldable pub contentsOf : List ℕ → Contents
 contentsOf file = cond (eqb (headRefusal file) 0) (scanFrom 65 file 0) (refused (headRefusal file))
@@ -55,3 +59,19 @@ recordsOf file = contentsOf file .records
 
 abbrev pub Accepted : List ℕ → Type 0
 Accepted file = refusalOf file ≡ 0
+
+-- what each case of a record read means for the count of records: a record is one more, the end and a refused record none
+abbrev pub onCount : (ℕ → ℕ) → ℕ → Kind → ℕ
+onCount rest k Held = rest (k + 1)
+onCount rest k (Under place) = rest (k + 1)
+onCount rest k End = k
+onCount rest k (Refused number) = k
+
+-- the count from record k on, for up to n records
+unfoldable pub countFrom : ℕ → List ℕ → ℕ → ℕ
+countFrom zero file k = k
+countFrom (suc n) file k = onCount (countFrom n file) k (kindAt file k)
+
+-- how many records are read before the envelope's end or its first refused record; none behind a header that is refused
+unfoldable pub recordsRead : List ℕ → ℕ
+recordsRead file = cond (eqb (headRefusal file) 0) (countFrom 65 file 0) 0

@@ -8,8 +8,9 @@ ghost use Prim.Native.Nat.{_+_, _≤_};
 ghost use lib.ListN.{length};
 ghost use Rattle.desk.specs.File.{startOf, recordNamed};
 ghost use Rattle.desk.specs.Record.{nameRefusal, heldKind, underKind, kindAt};
-ghost use Rattle.desk.specs.Whole.{headRefusal, refused, scanFrom, contentsOf};
+ghost use Rattle.desk.specs.Whole.{headRefusal, refused, settled, scanFrom, contentsOf, countFrom, recordsRead};
 ghost use Rattle.desk.specs.Derive.{walkTo, refusedDerived, derivedAt, recordAsked, derivedOf};
+ghost use Rattle.desk.specs.Labels.{namesIn, refusedLabels, labelsOf};
 ghost use Rattle.desk.specs.Reads.{Located, Falling};
 
 // What one record is: one that holds a secret, one under the record at a place, the end of the file, or a refusal with its number.
@@ -20,7 +21,7 @@ pub enum Kind {
     Refused(u8),
 }
 
-// The envelope's verdict, its number of records and where each starts; zeros with a refusal.
+// The verdict on an envelope, the number of its records and where each starts.
 pub struct Contents {
     pub refusal: u8,
     pub records: usize,
@@ -39,6 +40,15 @@ pub struct Derived {
     pub refusal: u8,
     pub key: [u8; 32],
     pub applications: u8,
+}
+
+// The account and the labels of an envelope: 8 bytes of name for each record, in the envelope's order, and zeros behind them; zeros with a refusal.
+#[repr(C)]
+pub struct Labels {
+    pub refusal: u8,
+    pub account: u16,
+    pub labels: usize,
+    pub names: [u8; 512],
 }
 
 // The first of `records` records that carries the name, or none.
@@ -156,10 +166,10 @@ fn refused_contents(number: u8) -> Contents
     }
 }
 
-// All records from the first on, behind a header of 12 bytes.
+// All records from the first on, behind a header of 12 bytes; with a refusal those before the refused one.
 fn read_records(envelope: &[u8]) -> Contents
     requires { ⌜ 12 ≤ length (now envelope) ⌝ }
-    ensures { λ r. ⌜ r ≡ scanFrom 65 (now (envelope .entry)) 0 ⌝ }
+    ensures { λ r. ⌜ (settled r ≡ scanFrom 65 (now (envelope .entry)) 0) × (r .records ≡ countFrom 65 (now (envelope .entry)) 0) ⌝ }
 {
     let mut starts = [0usize; 64];
     let mut records = 0;
@@ -185,7 +195,11 @@ fn read_records(envelope: &[u8]) -> Contents
                 };
             }
             Kind::Refused(number) => {
-                return refused_contents(number);
+                return Contents {
+                    refusal: number,
+                    records,
+                    starts,
+                };
             }
         }
     }
@@ -207,7 +221,7 @@ fn head_refusal(envelope: &[u8]) -> u8
     0
 }
 
-// The records of an envelope, or the number of its refusal.
+// The records of an envelope; zeros beside the number of a refusal.
 fn read_envelope(envelope: &[u8]) -> Contents
     ensures { λ r. ⌜ r ≡ contentsOf (now (envelope .entry)) ⌝ }
 {
@@ -215,7 +229,22 @@ fn read_envelope(envelope: &[u8]) -> Contents
     if number != 0 {
         return refused_contents(number);
     }
-    read_records(envelope)
+    let read = read_records(envelope);
+    if read.refusal != 0 {
+        return refused_contents(read.refusal);
+    }
+    read
+}
+
+// How many records of an envelope are read before its end or its first refused record.
+pub fn records_read(envelope: &[u8]) -> usize
+    ensures { λ r. ⌜ r ≡ recordsRead (now (envelope .entry)) ⌝ }
+{
+    if head_refusal(envelope) != 0 {
+        return 0;
+    }
+    let read = read_records(envelope);
+    read.records
 }
 
 // The secret of record `k`: held, or one step from that of the record at its place.
@@ -290,5 +319,50 @@ pub fn derive(envelope: &[u8], name: &[u8]) -> Derived
     match asked_record(envelope, read.records, &starts, name) {
         Found::At(k) => derive_record(envelope, &starts, k),
         Found::Nothing => refuse(20),
+    }
+}
+
+// The names of `records` records, one behind the other.
+fn read_names(envelope: &[u8], records: usize, starts: &[usize; 64]) -> [u8; 512]
+    requires { ⌜ Located (now envelope) (now starts) records ⌝ }
+    ensures { λ r. ⌜ r ≡ namesIn (now (envelope .entry)) records ⌝ }
+{
+    let mut names = [0u8; 512];
+    let mut i = 0;
+    while i < 8 * records {
+        let at = starts[i / 8];
+        names[i] = envelope[at + 2 + i % 8];
+        i += 1;
+    }
+    names
+}
+
+// The labels of an envelope that is refused.
+fn refused_labels(number: u8) -> Labels
+    ensures { λ r. ⌜ r ≡ refusedLabels number ⌝ }
+{
+    Labels {
+        refusal: number,
+        account: 0,
+        labels: 0,
+        names: [0u8; 512],
+    }
+}
+
+// The account and the labels of an envelope.
+pub fn read_labels(envelope: &[u8]) -> Labels
+    ensures { λ r. ⌜ r ≡ labelsOf (now (envelope .entry)) ⌝ }
+{
+    let read = read_envelope(envelope);
+    if read.refusal != 0 {
+        return refused_labels(read.refusal);
+    }
+    let starts = read.starts;
+    let account = format::read_number(envelope, 2);
+    Labels {
+        refusal: 0,
+        account,
+        labels: read.records,
+        names: read_names(envelope, read.records, &starts),
     }
 }

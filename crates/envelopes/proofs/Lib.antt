@@ -10,3 +10,4 @@ pub mod Steps
 pub mod Opens
 pub mod Held
 pub mod Length
+pub mod Names

@@ -3,12 +3,13 @@ use Prim.Native.Nat.{ℕ, zero, suc, _+_, _-_, _≤_, _<_}
 use mathlib.Core.Bool.{Bool, true, false, _&&_, false≢true}
 use mathlib.Core.List.{List, [], _∷_, _++_}
 use mathlib.Core.Path.{_≡_, refl, sym, ap, _∙_}
+use native.Mathlib.Decide.{decLe}
 use native.Mathlib.Nat.{add-assoc}
 use native.Mathlib.Numerals.{add-one}
 use native.Mathlib.Omega.{arith}
 use lib.Dec.{eqb}
-use lib.ListN.{length, getD, take, drop, replicate, drop-of-length-le, length-drop}
-use lib.Seq.{drop-cons, length-take-le}
+use lib.ListN.{length, getD, take, drop, replicate, drop-of-length-le, length-drop, take-append-drop}
+use lib.Seq.{drop-cons, length-take-le, take-all, take-append-le, drop-append-le}
 use borrow.Author.Tests.{eq-eqb, eqb-true}
 use Rattle.lists.proofs.Pasted.{copied, zero-filled-all}
 use Rattle.format.specs.Bytes.{bytesAt, sameBytes}
@@ -119,3 +120,19 @@ module _ (s : List ℕ) (at : ℕ) where
       let width : at + n - at ≡ n = omega arith in
       let size : length p ≡ n = rw width (length-take-le n (drop at s) (omega (arith, length-drop at s))) in
       e ∙ copied n p (omega arith) ∙ zero-filled-all n p size ∙ ap (λ (k : ℕ). take k (drop at s)) width
+
+-- the bytes of a front part
+pub front-bytes : (front back : List ℕ) (at n : ℕ) → at + n ≤ length front → bytesAt (front ++ back) at n ≡ bytesAt front at n
+front-bytes front back at n h =
+    rw (drop-append-le at front back (omega arith), take-append-le n (drop at front) back (simp length-drop (omega arith)))
+
+-- an answer that the bytes behind so long a front part do not change is that of any such part
+pub fronted : {A : Type 0} (bound : ℕ) (f : List ℕ → A) → ((front back : List ℕ) → bound ≤ length front → f (front ++ back) ≡ f front)
+    → (n : ℕ) → bound ≤ n → (s : List ℕ) → f s ≡ f (take n s)
+fronted bound f same n enough s = go (decLe (length s) n)
+  where
+    go : Dec (length s ≤ n) → f s ≡ f (take n s)
+    go (yes short) = ap f (sym (take-all n s short))
+    go (no long) =
+        let most : bound ≤ length (take n s) = rw (length-take-le n s (omega arith)) enough in
+        rw (take-append-drop n s) at (same (take n s) (drop n s) most)

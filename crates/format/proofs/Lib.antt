@@ -3,3 +3,4 @@ pub mod Names
 pub mod Search
 pub mod Form
 pub mod Named
+pub mod Padding

@@ -80,3 +80,12 @@ module _ (p : ℕ → Bool) where
             before = λ j l h.
                 ⊎-elim (λ same. ap p (sym same) ∙ miss) (λ more. r .before j (omega arith) h) (eq-or-lt-of-le l);
           }
+
+-- searches that ask two functions with the same values
+pub first-same : (p q : ℕ → Bool) (n i : ℕ) → ((k : ℕ) → k < i + n → p k ≡ q k) → firstFrom p i n ≡ firstFrom q i n
+first-same p q zero i same = first-none p i ∙ sym (first-none q i)
+first-same p q (suc n) i same = go (q i) refl (first-same p q n (i + 1) (λ k l. same k (omega arith)))
+  where
+    go : (t : Bool) → q i ≡ t → firstFrom p (i + 1) n ≡ firstFrom q (i + 1) n → firstFrom p i (suc n) ≡ firstFrom q i (suc n)
+    go true e rest = first-hit p i n (same i (omega arith) ∙ e) ∙ sym (first-hit q i n e)
+    go false e rest = first-miss p i n (same i (omega arith) ∙ e) ∙ rest ∙ sym (first-miss q i n e)

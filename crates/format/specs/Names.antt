@@ -44,3 +44,8 @@ someNoSpace (b ∷ bs) = cond (isSpace (classOf b)) (someNoSpace bs) true
 
 unfoldable pub wellFormed : List ℕ → Bool
 wellFormed name = formed name && someNoSpace name
+
+-- "name without padding": the bytes before the first space
+unfoldable pub unpadded : List ℕ → List ℕ
+unpadded [] = []
+unpadded (b ∷ bs) = cond (eqb b 32) [] (b ∷ unpadded bs)

@@ -3,7 +3,7 @@ ghost use mathlib.Core.Path.{_≡_};
 ghost use Prim.Native.Nat.{_+_, _≤_, _<_};
 ghost use lib.ListN.{length};
 ghost use Rattle.format.specs.Bytes.{bytesAt, sameBytes, numberAt};
-ghost use Rattle.format.specs.Names.{classOf, wellFormed};
+ghost use Rattle.format.specs.Names.{classOf, wellFormed, unpadded};
 
 // The marks that records and files open with.
 pub const LB: [u8; 2] = *b"LB";
@@ -75,6 +75,20 @@ pub fn well_formed(name: &[u8]) -> bool
         }
     }
     some
+}
+
+// How many bytes stand before a name's first space.
+pub fn unpadded_length(name: &[u8]) -> usize
+    ensures { λ r. ⌜ r ≡ length (unpadded (now (name .entry))) ⌝ }
+{
+    let mut i = 0;
+    while i < name.len() {
+        if name[i] == b' ' {
+            return i;
+        }
+        i += 1;
+    }
+    i
 }
 
 // Whether two names are the same.

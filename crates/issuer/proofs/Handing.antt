@@ -1,20 +1,15 @@
--- The envelope of an account, as it is handed out: no longer than the buffer of its own, and the front of it.
+-- The envelope of an account is no longer than the buffer that it is written into before it is handed out.
 use Prim.Native.Nat.{ℕ, zero, suc, _+_, _*_, _≤_}
 use mathlib.Core.Bool.{Bool, true, false, cond}
 use mathlib.Core.List.{List, [], _∷_}
-use mathlib.Core.Path.{_≡_, ap, _∙_}
+use mathlib.Core.Path.{_≡_}
 use native.Mathlib.Omega.{arith}
-use lib.ListN.{length, take, drop, length-append, length-take}
-use Rattle.buffers.proofs.Writes.{put-front}
-use Rattle.buffers.specs.Handed.{handed, handedInto}
-use Rattle.buffers.specs.Put.{Put}
-use Rattle.buffers.specs.declared.Written.{Written}
+use lib.ListN.{length, drop, length-append, length-take}
 use Rattle.envelopes.proofs.Secrets.{secret-length}
 use Rattle.envelopes.specs.Envelope.{heldRecord, underRecord, header, placeBelow, recordOf, recordsBelow, envelopeOf}
 use Rattle.envelopes.specs.Secrets.{secretOf}
 use Rattle.policy.specs.File.{nameOf}
 use Rattle.trees.specs.Weights.{inSmallest}
-use Rattle.issuer.specs.Issue.{issued}
 
 module _ (policy : List ℕ) (le : ℕ → ℕ → Bool) (parent : ℕ → ℕ) (root : List ℕ) (l : ℕ) where
   abbrev records : ℕ → List ℕ
@@ -57,14 +52,3 @@ module _ (policy : List ℕ) (le : ℕ → ℕ → Bool) (parent : ℕ → ℕ) 
     unfolding envelopeOf
     envelope-upto labels account few =
         omega (arith, length-append (header account (nameOf policy l)) (records labels), name-upto l, records-upto labels)
-
--- what stands at the front of a buffer, handed out
-module _ {d e s : List ℕ} {r : ℕ} (put : Put d e 0 s r) where
-  pub front-length : r ≡ length (take r e)
-  front-length = omega (arith, put .behind, ap length (put-front put))
-
-  pub front-issued : (room : ℕ) {w : Written} → w ≡ handed (take r e) room → issued w ≡ issued (handed s room)
-  front-issued room h = ap issued (h ∙ ap (λ (t : List ℕ). handed t room) (put-front put))
-
-  pub front-left : (out : List ℕ) {after : List ℕ} → after ≡ handedInto (take r e) out → after ≡ handedInto s out
-  front-left out h = h ∙ ap (λ (t : List ℕ). handedInto t out) (put-front put)

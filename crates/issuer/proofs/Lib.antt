@@ -3,3 +3,5 @@ pub mod Answers
 pub mod Zeros
 pub mod Tables
 pub mod Handing
+pub mod Words
+pub mod Front

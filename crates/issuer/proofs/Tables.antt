@@ -4,6 +4,7 @@ use mathlib.Core.Bool.{Bool}
 use mathlib.Core.List.{List}
 use mathlib.Core.Path.{_≡_, sym, ap, ap₂, subst, _∙_}
 use native.Mathlib.Omega.{arith}
+use borrow.Author.Tests.{eq-eqb}
 use lib.ListN.{length}
 use lib.Seq.{take-all}
 use Rattle.envelopes.specs.Envelope.{envelopeOf}
@@ -16,7 +17,7 @@ use Rattle.order.specs.Table.{atOrBelow}
 use Rattle.planner.proofs.PlanAnswer.{plan-answer-tree}
 use Rattle.planner.proofs.PolicyOrder.{policy-order}
 use Rattle.planner.proofs.WorkedTables.{table-rowed}
-use Rattle.planner.specs.Planned.{testOf, planned, planOf}
+use Rattle.planner.specs.Planned.{testOf, planned, planOf, rowsAfter}
 use Rattle.planner.specs.declared.Plan.{Plan}
 use Rattle.policy.proofs.Lawful.{lawful}
 use Rattle.policy.proofs.Verdict.{bounds}
@@ -61,6 +62,10 @@ module _ (policy : List ℕ) where
 
     pub plan-accepted : plan .refusal ≡ 0 → Accepted policy
     plan-accepted e = sym plan-number ∙ e
+
+    pub plan-rows : plan .refusal ≡ 0 → (rows : List (List Bool)) → rowsAfter policy rows ≡ orderOf policy
+    unfolding rowsAfter
+    plan-rows e rows = rw (eq-eqb (refusalOf policy) 0 (plan-accepted e))
 
     pub plan-hung : plan .refusal ≡ 0 → Hung policy (plan .parents) (plan .labels)
     unfolding planOf planned

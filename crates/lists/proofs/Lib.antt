@@ -1,3 +1,4 @@
 pub mod Tables
 pub mod Listed
+pub mod Concat
 pub mod Pasted

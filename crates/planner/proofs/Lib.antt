@@ -5,3 +5,4 @@ pub mod TreeNumbers
 pub mod WeighAnswer
 pub mod WorkedExamples
 pub mod WorkedTables
+pub mod Front

@@ -1,7 +1,8 @@
 -- What `plan_policy` answers for a policy file (01, "Tree, weights and key sets").
 use Prim.Native.Nat.{ℕ}
-use mathlib.Core.Bool.{Bool}
+use mathlib.Core.Bool.{Bool, cond}
 use mathlib.Core.List.{List}
+use lib.Dec.{eqb}
 use lib.ListN.{replicate}
 use Rattle.order.specs.Table.{atOrBelow}
 use Rattle.policy.specs.File.{countOf}
@@ -43,3 +44,7 @@ refusedPlan number = record {
   sizes = replicate 64 0;
   total = 0;
 }
+
+-- what lent rows hold after `plan_order`: the order of an accepted policy; with a refusal "lent buffers are unchanged"
+unfoldable pub rowsAfter : List ℕ → List (List Bool) → List (List Bool)
+rowsAfter file rows = cond (eqb (refusalOf file) 0) (orderOf file) rows

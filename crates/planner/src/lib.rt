@@ -5,10 +5,9 @@ ghost use Prim.Native.Nat.{_+_, _≤_, _<_};
 ghost use lib.ListN.{length};
 ghost use Rattle.lists.specs.Tables.{filled};
 ghost use Rattle.order.specs.Table.{atOrBelow};
-ghost use Rattle.policy.specs.Whole.{orderOf};
 ghost use Rattle.trees.specs.Weights.{total};
 ghost use Rattle.weights.specs.Tables.{entries, Rowed, Falls};
-ghost use Rattle.planner.specs.Planned.{planned, planOf};
+ghost use Rattle.planner.specs.Planned.{planned, planOf, refusedPlan, rowsAfter};
 ghost use Rattle.planner.specs.TreeFile.{parentIn, hangsAt, treeRefusal};
 ghost use Rattle.planner.specs.Weighing.{refusedWeighed, treeWeighed, weighOf};
 
@@ -122,11 +121,28 @@ fn plan_labels(refusal: u8, labels: usize, counts: &[u16; 64], rows: &[[bool; 64
     }
 }
 
-// The plan of a policy, or the number of its refusal, and the order of its labels into `rows`.
+// The plan with a refusal.
+fn refused_plan(number: u8) -> Plan
+    ensures { λ r. ⌜ r ≡ refusedPlan number ⌝ }
+{
+    Plan {
+        refusal: number,
+        labels: 0,
+        parents: [0u8; 64],
+        weights: [0u32; 64],
+        sizes: [0u8; 64],
+        total: 0,
+    }
+}
+
+// The plan of a policy, or the number of its refusal, and the order of an accepted policy's labels into `rows`.
 pub fn plan_order(policy: &[u8], rows: &mut [[bool; 64]; 64]) -> Plan
-    ensures { λ r. ⌜ (r ≡ planOf (now (policy .entry))) × (now (rows .exit) ≡ orderOf (now (policy .entry))) ⌝ }
+    ensures { λ r. ⌜ (r ≡ planOf (now (policy .entry))) × (now (rows .exit) ≡ rowsAfter (now (policy .entry)) (now (rows .entry))) ⌝ }
 {
     let read = policy::read_policy(policy);
+    if read.refusal != 0 {
+        return refused_plan(read.refusal);
+    }
     let counts = read.counts;
     let over = read.over;
     let table = order::order_table(read.labels, read.pairs, over);

@@ -1,5 +1,5 @@
 -- The whole file: the answer of `scanned` is what the words of the table say, and only then.
-use Prim.Native.Nat.{ℕ, zero, suc, _+_, _-_, _≤_, _<_}
+use Prim.Native.Nat.{ℕ, zero, suc, _≤_, _<_}
 use mathlib.Core.Bool.{Bool, true, false, _||_, false≢true}
 use mathlib.Core.List.{List}
 use mathlib.Core.Logic.{_⊎_, inl, inr}
@@ -10,13 +10,14 @@ use borrow.Author.Tests.{eq-eqb, ne-eqb, eqb-true, eqb-false}
 use lib.Dec.{eqb}
 use lib.ListN.{length}
 use Rattle.lists.proofs.Tables.{some-at, some-below, every-all, every-miss}
-use Rattle.policy.proofs.Meaning.{Means, is-end, is-refused, is-label, is-over, meaning, kind-of}
-use Rattle.policy.proofs.Passing.{labels-bound, pairs-bound, place-within}
+use Rattle.policy.proofs.Meaning.{is-end, is-refused, kind-of}
+use Rattle.policy.proofs.Passing.{place-within}
+use Rattle.policy.proofs.Stopping.{row-number, stops, stops-only}
 use Rattle.policy.specs.File.{pairAt}
-use Rattle.policy.specs.Rows.{bytesLeft, RefusedAt, Passes, start, label, over, LowerOf, Unplaced, Answered, empty, at-record, at-end, read}
-use Rattle.policy.specs.Whole.{refused, accepted, isLowerOf, isLower, isPlaced, atEnd, onKind, scanFrom, scanned}
-use Rattle.policy.specs.declared.Kind.{Kind}
+use Rattle.policy.specs.Rows.{bytesLeft, RefusedAt, Passes, Stops, refused-there, ended-there, LowerOf, Unplaced, Answered, empty, at-record, at-end, read}
+use Rattle.policy.specs.Whole.{refused, accepted, isLowerOf, isLower, isPlaced, atEnd, stopAt, stopOf, onStop, scanned}
 use Rattle.policy.specs.declared.Scan.{Scan}
+use Rattle.policy.specs.declared.Stop.{Stop}
 
 -- a label is the lower of a pair or not
 module _ (file : List ℕ) (labels pairs m : ℕ) where
@@ -89,49 +90,24 @@ module _ (file : List ℕ) (labels pairs : ℕ) where
       go (inl all) = rw (all-placed all) (read record { some = h; passes = before; ends = e; placed = all })
       go (inr u) = rw (one-unplaced u) (at-end before u)
 
--- From the answer to words. The records are never more than the count that `scanFrom` may read: with none left to read
--- there would be more than 64 labels or 512 pairs.
-module _ (file : List ℕ) (some : 0 < length file) where
-  pub scan-answered : (n labels pairs : ℕ) → Passes file labels pairs → 577 ≤ n + (labels + pairs) → Answered file (scanFrom n file labels pairs)
-  unfolding scanFrom
-  scan-answered zero labels pairs before h = absurd (omega (arith, labels-bound before, pairs-bound before))
-  scan-answered (suc n) labels pairs before h =
-      let r = meaning file labels pairs in
-      rw (kind-of file labels pairs (r .1)) (go (scan-answered n) (r .1))
-    where
-      go : ((l p : ℕ) → Passes file l p → 577 ≤ n + (l + p) → Answered file (scanFrom n file l p))
-          → {k : Kind} → Means file labels pairs k → Answered file (onKind (scanFrom n file) file labels pairs k)
-      go rest (is-end e) = end-answered file labels pairs some before e
-      go rest (is-refused r) = at-record before r
-      go rest (is-label r) = rest (labels + 1) pairs (label before r) (omega arith)
-      go rest (is-over r) = rest labels (pairs + 1) (over before r) (omega arith)
-
--- From words to the answer.
 module _ (file : List ℕ) where
-  one-record : (n labels pairs : ℕ) {k : Kind} → Means file labels pairs k
-      → scanFrom (suc n) file labels pairs ≡ onKind (scanFrom n file) file labels pairs k
-  unfolding scanFrom
-  one-record n labels pairs r = rw (kind-of file labels pairs r)
-
-  -- a scan from the first record on comes to each record before which all pass
-  scan-comes : {labels pairs : ℕ} → Passes file labels pairs → (n : ℕ) → n + (labels + pairs) ≡ 577
-      → scanFrom 577 file 0 0 ≡ scanFrom n file labels pairs
-  scan-comes start n e = let same : n ≡ 577 = omega arith in ap (λ (f : ℕ). scanFrom f file 0 0) (sym same)
-  scan-comes (label {labels} {pairs} before r) n e = scan-comes before (suc n) (omega arith) ∙ one-record n labels pairs (is-label r)
-  scan-comes (over {labels} {pairs} before r) n e = scan-comes before (suc n) (omega arith) ∙ one-record n labels pairs (is-over r)
-
-  pub started : 0 < length file → scanned file ≡ scanFrom 577 file 0 0
+  pub started : 0 < length file → scanned file ≡ onStop file (stopOf file)
   unfolding scanned
   started h = rw (ne-eqb (length file) 0 (λ e. omega arith))
 
-  read-at : {labels pairs : ℕ} → Passes file labels pairs → 0 < length file → {k : Kind} → Means file labels pairs k
-      → scanned file ≡ onKind (scanFrom (576 - (labels + pairs)) file) file labels pairs k
-  read-at {labels} {pairs} before h r =
-      started h
-      ∙ scan-comes before (suc (576 - (labels + pairs))) (omega (arith, labels-bound before, pairs-bound before))
-      ∙ one-record (576 - (labels + pairs)) labels pairs r
+  -- the answer of a stop, which is that of the file
+  refused-answer : {labels pairs n : ℕ} → RefusedAt file labels pairs n → onStop file (stopAt n labels pairs) ≡ refused n
+  refused-answer {n} r = rw (ne-eqb n 0 (λ e. omega (arith, row-number r)))
 
-  -- a record that is refused has bytes
+  stop-answer : 0 < length file → {s : Stop} → Stops file s → scanned file ≡ onStop file s
+  stop-answer h s = started h ∙ ap (onStop file) (stops-only file s)
+
+  -- From the answer to words.
+  stop-answered : 0 < length file → {s : Stop} → Stops file s → Answered file (onStop file s)
+  stop-answered h (refused-there before r) = rw (refused-answer r) (at-record before r)
+  stop-answered h (ended-there {labels} {pairs} before e) = end-answered file labels pairs h before e
+
+  -- From words to the answer. A record that is refused has bytes.
   refused-left : {labels pairs n : ℕ} → RefusedAt file labels pairs n → 0 < bytesLeft file labels pairs
   refused-left {labels} {pairs} {n} r = go (ℕ-discrete (bytesLeft file labels pairs) 0)
     where
@@ -144,15 +120,15 @@ module _ (file : List ℕ) where
   pub answered-only : {s : Scan} → Answered file s → scanned file ≡ s
   unfolding scanned
   answered-only (empty e) = rw (eq-eqb (length file) 0 e)
-  answered-only (at-record before r) = read-at before (omega (arith, refused-left r)) (is-refused r)
+  answered-only (at-record before r) = stop-answer (omega (arith, refused-left r)) (refused-there before r) ∙ refused-answer r
   answered-only (at-end {labels} {pairs} before u) =
-      read-at before (omega (arith, place-within before, u .below)) (is-end (u .ends)) ∙ one-unplaced file labels pairs u
+      stop-answer (omega (arith, place-within before, u .below)) (ended-there before (u .ends)) ∙ one-unplaced file labels pairs u
   answered-only (read {labels} {pairs} r) =
-      read-at (r .passes) (r .some) (is-end (r .ends)) ∙ all-placed file labels pairs (r .placed)
+      stop-answer (r .some) (ended-there (r .passes) (r .ends)) ∙ all-placed file labels pairs (r .placed)
 
   pub answered : Answered file (scanned file)
   answered = go (ℕ-discrete (length file) 0)
     where
       go : Dec (length file ≡ 0) → Answered file (scanned file)
       go (yes e) = rw (answered-only (empty e)) (empty e)
-      go (no d) = let h : 0 < length file = omega arith in rw (started h) (scan-answered file h 577 0 0 start (omega arith))
+      go (no d) = let h : 0 < length file = omega arith in rw (started h) (stop-answered h (stops file))

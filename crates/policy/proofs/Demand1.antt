@@ -7,12 +7,13 @@ use mathlib.Core.Path.{_≡_, refl, sym, ap, _∙_}
 use native.Mathlib.Decide.{ℕ-discrete}
 use native.Mathlib.Omega.{arith}
 use lib.ListN.{length}
-use Rattle.policy.proofs.Answered.{scan-answered, answered, answered-only}
+use Rattle.policy.proofs.Answered.{answered, answered-only}
 use Rattle.policy.proofs.Passing.{place-within}
-use Rattle.policy.proofs.Verdict.{row-number, policyFrom, number-of, refusal-row}
+use Rattle.policy.proofs.Stopping.{row-number, scan-stops, stops-only, read-to-end}
+use Rattle.policy.proofs.Verdict.{policyFrom, number-of, refusal-row}
 use Rattle.policy.specs.Rows.{NoMark, CutShort, LateLabel, TooMany, BadName, NameCarried, NoSuchLabel, NotAbove, Unplaced, RefusedAt, row-2, row-3, row-4, row-5, row-6, row-7, row-8, row-9, start, NoneRefuses, Reached, Answered, refusedPolicy, empty, at-record, at-end, read}
 use Rattle.lists.specs.Tables.{listed}
-use Rattle.policy.specs.Whole.{refused, accepted, scanFrom, scanned, refusalOf, labelsOf, pairCount, Accepted, policyOf}
+use Rattle.policy.specs.Whole.{refused, accepted, scanFrom, stopOf, recordsRead, scanned, refusalOf, labelsOf, pairCount, Accepted, policyOf}
 use Rattle.policy.specs.declared.Scan.{Scan}
 
 module _ (file : List ℕ) where
@@ -134,9 +135,13 @@ module _ (file : List ℕ) where
       go (yes e) = inl e
       go (no d) = inr (omega arith, refusal-range)
 
-  -- The 577 records that `scanned` may read are enough: to allow more changes nothing.
-  pub records-enough : (n : ℕ) → 577 ≤ n → 0 < length file → scanFrom n file 0 0 ≡ scanned file
-  records-enough n h some = sym (answered-only file (scan-answered file some n 0 0 start (omega arith)))
+  -- All records of an accepted file are read.
+  pub accepted-read : Accepted file → recordsRead file ≡ labelsOf file + pairCount file
+  accepted-read e = let r = accepted-iff .0 e in read-to-end file (r .passes) (r .ends)
+
+  -- The 577 records that `stopOf` may read are enough: to allow more changes nothing.
+  pub records-enough : (n : ℕ) → 577 ≤ n → scanFrom n file 0 0 ≡ stopOf file
+  records-enough n h = sym (stops-only file (scan-stops file n 0 0 start (omega arith)))
 
   -- "With a refusal every number in the answer is 0"
   pub refused-zeros : 0 < refusalOf file → policyOf file ≡ refusedPolicy (refusalOf file)

@@ -9,7 +9,7 @@ use Rattle.format.specs.Search.{firstFrom}
 use Rattle.policy.specs.File.{nameOf, countOf, pairAt, isNamed, labelNamed}
 use Rattle.policy.specs.Record.{labelKind, overKind, markedKind, kindAt}
 use Rattle.lists.specs.Tables.{someBelow, everyBelow}
-use Rattle.policy.specs.Whole.{isLowerOf, isLower, isPlaced, atEnd, scanFrom, scanned, refusalOf}
+use Rattle.policy.specs.Whole.{isLowerOf, isLower, isPlaced, atEnd, scanFrom, recordsRead, scanned, refusalOf}
 
 -- an `LB` record from its name and count, an `OV` record from its two numbers
 abbrev label : List ℕ → ℕ → ℕ → List ℕ
@@ -50,3 +50,11 @@ pub orders : map refusalOf
     ≡ 2 ∷ 2 ∷ 3 ∷ 4 ∷ 6 ∷ 6 ∷ 7 ∷ 8 ∷ []
 unfolding sameBytes classOf padding formed someNoSpace wellFormed firstFrom someBelow everyBelow nameOf countOf pairAt isNamed labelNamed labelKind overKind markedKind kindAt isLowerOf isLower isPlaced atEnd scanFrom scanned
 orders = refl
+
+-- how many records are read of the empty policy, one label, its record without the last byte, E, E without its last two pairs, E with 3-3,
+-- one label twice, and one label before a foreign mark
+pub counts : map recordsRead
+    ([] ∷ one ∷ take 11 one ∷ E ∷ take 56 E ∷ (E ++ over 3 3) ∷ (one ++ one) ∷ (one ++ (84 ∷ 82 ∷ [])) ∷ [])
+    ≡ 0 ∷ 1 ∷ 0 ∷ 8 ∷ 6 ∷ 8 ∷ 1 ∷ 1 ∷ []
+unfolding sameBytes classOf padding formed someNoSpace wellFormed firstFrom nameOf countOf pairAt isNamed labelNamed labelKind overKind markedKind kindAt scanFrom recordsRead
+counts = refl

@@ -1,33 +1,40 @@
--- A policy's answer follows from its first 2,828 bytes: the records of an accepted policy take at most 2,816 bytes, and every
+-- A policy's answers follow from its first 2,828 bytes: the records of an accepted policy take at most 2,816 bytes, and every
 -- record is judged by its first 12.
 use Prim.Native.Nat.{ℕ, zero, suc, _+_, _*_, _≤_}
 use mathlib.Core.Bool.{cond}
 use mathlib.Core.List.{List, _++_}
-use mathlib.Core.Path.{_≡_, refl, sym, ap, _∙_}
+use mathlib.Core.Path.{_≡_, refl, sym, ap, ap₂, _∙_}
 use native.Mathlib.Decide.{decLe}
 use native.Mathlib.Omega.{arith}
-use borrow.Author.Tests.{le-ltb}
+use borrow.Author.Tests.{le-ltb, ne-eqb}
 use lib.Dec.{ltb}
 use lib.ListN.{length, take, drop, length-append, take-append-drop, List·getD-append}
 use lib.Seq.{length-take-le, take-all}
+use Rattle.format.proofs.Bytes.{front-bytes}
+use Rattle.format.proofs.Search.{first-same}
 use Rattle.format.specs.Bytes.{sameBytes}
 use Rattle.format.specs.Marks.{LB, OV}
+use Rattle.order.specs.Table.{orderTable}
+use Rattle.order.specs.declared.Pair.{Pair}
 use Rattle.policy.proofs.Answered.{started}
 use Rattle.lists.proofs.Listed.{listed-same}
-use Rattle.policy.proofs.Searches.{first-same, front-bytes}
 use Rattle.policy.proofs.Meaning.{Means, is-end, is-refused, is-label, is-over, meaning, kind-of, marked}
+use Rattle.policy.proofs.Passing.{labels-bound, pairs-bound}
+use Rattle.policy.proofs.Stopping.{row-number, stops}
 use Rattle.policy.proofs.Verdict.{policyFrom, bounds}
 use Rattle.policy.specs.File.{placeOf, nameOf, countOf, pairAt, isNamed, labelNamed}
 use Rattle.policy.specs.Record.{labelKind, overKind, markedKind, kindAt}
-use Rattle.policy.specs.Rows.{bytesLeft, markOf}
+use Rattle.policy.specs.Rows.{bytesLeft, markOf, Stops, refused-there, ended-there}
 use Rattle.lists.specs.Tables.{listed}
-use Rattle.policy.specs.Whole.{onKind, scanFrom, scanned, labelsOf, pairCount, pairsOf, policyOf}
+use Rattle.policy.specs.Whole.{onKind, scanFrom, stopOf, recordsRead, onStop, scanned, labelsOf, pairCount, pairsOf, orderOf, policyOf}
 use Rattle.policy.specs.declared.Kind.the-variants.{Refused}
 use Rattle.policy.specs.declared.Kind.{Kind}
 use Rattle.policy.specs.declared.Scan.{Scan}
+use Rattle.policy.specs.declared.Stop.{Stop}
 
--- two files that say the same of their first 64 labels and 512 pairs, and are accepted or refused alike
+-- two files that say the same of their first 64 labels and 512 pairs, are read as far, and are accepted or refused alike
 pub record Agree (a b : List ℕ) : Type 0 where
+  pub stop : stopOf a ≡ stopOf b
   pub verdict : scanned a ≡ scanned b
   pub names : (i : ℕ) → i ≤ 64 → nameOf a i ≡ nameOf b i
   pub counts : (i : ℕ) → i ≤ 64 → countOf a i ≡ countOf b i
@@ -41,6 +48,13 @@ unfolding markedKind
 long-kind file labels pairs h =
     marked file labels pairs (omega arith)
     ∙ rw (le-ltb (bytesLeft file labels pairs) 12 h, le-ltb (bytesLeft file labels pairs) 4 (omega arith))
+
+-- labels with the same names are found alike
+named-same : (a b : List ℕ) → ((i : ℕ) → i ≤ 64 → nameOf a i ≡ nameOf b i)
+    → (labels : ℕ) (name : List ℕ) → labels ≤ 64 → labelNamed a labels name ≡ labelNamed b labels name
+unfolding labelNamed isNamed
+named-same a b same labels name h =
+    first-same (isNamed a name) (isNamed b name) labels 0 (λ k l. ap (λ (n : List ℕ). sameBytes n name) (same k (omega arith)))
 
 module _ (front back : List ℕ) (long : 2828 ≤ length front) where
   name-same : (i : ℕ) → i ≤ 64 → nameOf (front ++ back) i ≡ nameOf front i
@@ -60,12 +74,6 @@ module _ (front back : List ℕ) (long : 2828 ≤ length front) where
         List·getD-append front back 0 (placeOf labels k + 3) (omega arith),
       )
 
-  named-same : (labels : ℕ) (name : List ℕ) → labels ≤ 64 → labelNamed (front ++ back) labels name ≡ labelNamed front labels name
-  unfolding labelNamed isNamed
-  named-same labels name h =
-      first-same (isNamed (front ++ back) name) (isNamed front name) labels 0
-      (λ k l. ap (λ (n : List ℕ). sameBytes n name) (name-same k (omega arith)))
-
   kind-same : (labels pairs : ℕ) → labels ≤ 64 → pairs ≤ 512 → kindAt (front ++ back) labels pairs ≡ kindAt front labels pairs
   unfolding labelKind overKind
   kind-same labels pairs l p =
@@ -73,7 +81,7 @@ module _ (front back : List ℕ) (long : 2828 ≤ length front) where
       ∙ rw (
         front-bytes front back (placeOf labels pairs) 2 (omega arith),
         name-same labels l,
-        named-same labels (nameOf front labels) l,
+        named-same (front ++ back) front name-same labels (nameOf front labels) l,
         count-same labels l,
         pair-same labels pairs l p,
       )
@@ -88,21 +96,29 @@ module _ (front back : List ℕ) (long : 2828 ≤ length front) where
     where
       go : ((i k : ℕ) → i ≤ 64 → k ≤ 512 → scanFrom n (front ++ back) i k ≡ scanFrom n front i k)
           → {k : Kind} → Means front labels pairs k
-          → onKind (scanFrom n (front ++ back)) (front ++ back) labels pairs k ≡ onKind (scanFrom n front) front labels pairs k
-      go rest (is-end e) = absurd (omega arith)
+          → onKind (scanFrom n (front ++ back)) labels pairs k ≡ onKind (scanFrom n front) labels pairs k
+      go rest (is-end e) = refl
       go rest (is-refused r) = refl
       go rest (is-label r) = rest (labels + 1) pairs (omega (arith, r .label .fits)) p
       go rest (is-over r) = rest labels (pairs + 1) l (omega (arith, r .over .fits))
 
+  stop-same : stopOf (front ++ back) ≡ stopOf front
+  stop-same = scan-same 577 0 0 (omega arith) (omega arith)
+
+  -- so long a file is refused at a record
   scanned-same : scanned (front ++ back) ≡ scanned front
   scanned-same =
-      started (front ++ back) (simp length-append (omega arith)) ∙ scan-same 577 0 0 (omega arith) (omega arith)
+      started (front ++ back) (simp length-append (omega arith)) ∙ ap (onStop (front ++ back)) stop-same ∙ go (stops front)
       ∙ sym (started front (omega arith))
+    where
+      go : {s : Stop} → Stops front s → onStop (front ++ back) s ≡ onStop front s
+      go (refused-there {n} before r) = rw (ne-eqb n 0 (λ e. omega (arith, row-number r)))
+      go (ended-there before e) = absurd (omega (arith, labels-bound before, pairs-bound before))
 
   scanned-agrees : Agree (front ++ back) front
-  scanned-agrees = record { verdict = scanned-same; names = name-same; counts = count-same; pairs = pair-same }
+  scanned-agrees = record { stop = stop-same; verdict = scanned-same; names = name-same; counts = count-same; pairs = pair-same }
 
--- two files that agree are answered alike, and have the same pairs
+-- two files that agree are answered alike, have the same pairs and order, and their labels are found alike
 module _ (a b : List ℕ) (same : Agree a b) where
   pub agree-policy : policyOf a ≡ policyOf b
   unfolding policyOf
@@ -125,18 +141,30 @@ module _ (a b : List ℕ) (same : Agree a b) where
       ap (λ (s : Scan). listed (pairAt a (s .labels)) (s .pairs)) (same .verdict)
       ∙ listed-same (pairAt a (labelsOf b)) (pairAt b (labelsOf b)) (pairCount b) (λ k h. same .pairs (labelsOf b) k l (omega arith))
 
--- A file says the same as its first 2,828 bytes, so it has their answer.
-pub front-agrees : (file : List ℕ) → Agree file (take 2828 file)
-front-agrees file = go (decLe (length file) 2828)
-  where
-    go : Dec (length file ≤ 2828) → Agree file (take 2828 file)
-    go (yes short) =
-        rw (take-all 2828 file short)
-        (record { verdict = refl; names = λ i h. refl; counts = λ i h. refl; pairs = λ labels k l h. refl })
-    go (no long) =
-        let front = take 2828 file in
-        let enough : 2828 ≤ length front = rw (length-take-le 2828 file (omega arith)) (omega arith) in
-        rw (take-append-drop 2828 file) at (scanned-agrees front (drop 2828 file) enough)
+  pub agree-order : orderOf a ≡ orderOf b
+  unfolding orderOf
+  agree-order = ap₂ (λ (s : Scan) (pairs : List Pair). orderTable (s .labels) pairs) (same .verdict) agree-pairs
 
-pub front-answers : (file : List ℕ) → policyOf file ≡ policyOf (take 2828 file)
-front-answers file = agree-policy file (take 2828 file) (front-agrees file)
+  pub agree-named : (labels : ℕ) (name : List ℕ) → labels ≤ 64 → labelNamed a labels name ≡ labelNamed b labels name
+  agree-named = named-same a b (same .names)
+
+-- A file says the same as any front part of at least 2,828 bytes, so it has its answers.
+module _ (n : ℕ) (enough : 2828 ≤ n) (file : List ℕ) where
+  pub front-agrees : Agree file (take n file)
+  front-agrees = go (decLe (length file) n)
+    where
+      go : Dec (length file ≤ n) → Agree file (take n file)
+      go (yes short) =
+          rw (take-all n file short)
+          (record { stop = refl; verdict = refl; names = λ i h. refl; counts = λ i h. refl; pairs = λ labels k l h. refl })
+      go (no long) =
+          let front = take n file in
+          let most : 2828 ≤ length front = rw (length-take-le n file (omega arith)) enough in
+          rw (take-append-drop n file) at (scanned-agrees front (drop n file) most)
+
+  pub front-answers : policyOf file ≡ policyOf (take n file)
+  front-answers = agree-policy file (take n file) front-agrees
+
+  pub front-records : recordsRead file ≡ recordsRead (take n file)
+  unfolding recordsRead
+  front-records = ap (λ (s : Stop). s .labels + s .pairs) (front-agrees .stop)

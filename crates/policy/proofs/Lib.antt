@@ -1,8 +1,8 @@
-pub mod Searches
 pub mod Names
 pub mod OneRecord
 pub mod Meaning
 pub mod Passing
+pub mod Stopping
 pub mod Answered
 pub mod Verdict
 pub mod Records

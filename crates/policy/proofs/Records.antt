@@ -14,9 +14,10 @@ use Rattle.policy.specs.Record.{kindAt, withName, recordAt}
 use Rattle.lists.proofs.Listed.{listed-set}
 use Rattle.lists.proofs.Tables.{getD-listed}
 use Rattle.lists.specs.Tables.{someBelow, everyBelow, listed}
-use Rattle.policy.specs.Whole.{refused, isLowerOf, isLower, isPlaced, atEnd, scanFrom, scanned}
+use Rattle.policy.specs.Whole.{refused, isLowerOf, isLower, isPlaced, stopAt, scanFrom, stopOf, onStop, scanned}
 use Rattle.policy.specs.declared.Kind.the-variants.{Label, Over, End, Refused}
 use Rattle.policy.specs.declared.Record.{Record}
+use Rattle.policy.specs.declared.Stop.{Stop}
 
 -- the check at the end: label 0 needs no pair, any other is placed exactly when it is the lower of one
 module _ (file : List ℕ) (labels pairs : ℕ) where
@@ -66,33 +67,23 @@ module _ (n : ℕ) (file : List ℕ) (labels pairs : ℕ) where
   unfolding scanFrom
   scan-over pair e = rw e
 
-  pub scan-end : kindAt file labels pairs ≡ End → scanFrom (suc n) file labels pairs ≡ atEnd file labels pairs
+  pub scan-end : kindAt file labels pairs ≡ End → scanFrom (suc n) file labels pairs ≡ stopAt 0 labels pairs
   unfolding scanFrom
   scan-end e = rw e
 
-  pub scan-refused : (number : ℕ) → kindAt file labels pairs ≡ Refused number → scanFrom (suc n) file labels pairs ≡ refused number
+  pub scan-refused : (number : ℕ) → kindAt file labels pairs ≡ Refused number → scanFrom (suc n) file labels pairs ≡ stopAt number labels pairs
   unfolding scanFrom
   scan-refused number e = rw e
 
--- what holds behind so many labels and pairs: they lie within the file, and the answer is that of the rest
+-- what holds behind so many labels and pairs: they lie within the file, and the stop is that of the rest
 pub record Reading (file : List ℕ) (labels pairs : ℕ) : Type 0 where
   pub few : labels ≤ 64
   pub fewPairs : pairs ≤ 512
   pub within : placeOf labels pairs ≤ length file
-  pub rest : scanned file ≡ scanFrom (577 - (labels + pairs)) file labels pairs
+  pub rest : stopOf file ≡ scanFrom (577 - (labels + pairs)) file labels pairs
 
-pub no-bytes : (file : List ℕ) → length file ≡ 0 → scanned file ≡ refused 1
-unfolding scanned
-no-bytes file e = rw (eq-eqb (length file) 0 e)
-
-pub reading-start : (file : List ℕ) → (length file ≡ 0 → ⊥) → Reading file 0 0
-unfolding scanned
-reading-start file e = record {
-  few = omega arith;
-  fewPairs = omega arith;
-  within = omega arith;
-  rest = rw (ne-eqb (length file) 0 e);
-}
+pub reading-start : (file : List ℕ) → Reading file 0 0
+reading-start file = record { few = omega arith; fewPairs = omega arith; within = omega arith; rest = refl }
 
 module _ (file : List ℕ) (labels pairs : ℕ) (r : Reading file labels pairs) where
   more : 577 - (labels + pairs) ≡ suc (577 - (labels + pairs + 1))
@@ -120,12 +111,22 @@ module _ (file : List ℕ) (labels pairs : ℕ) (r : Reading file labels pairs) 
         rest = r .rest ∙ rw (more, scan-over (577 - (labels + pairs + 1)) file labels pairs pair e, left);
       }
 
-  pub reading-end : kindAt file labels pairs ≡ End → scanned file ≡ atEnd file labels pairs
+  pub reading-end : kindAt file labels pairs ≡ End → stopOf file ≡ stopAt 0 labels pairs
   reading-end e = r .rest ∙ rw (more, scan-end (577 - (labels + pairs + 1)) file labels pairs e)
 
-  pub reading-refused : (number : ℕ) → kindAt file labels pairs ≡ Refused number → scanned file ≡ refused number
+  pub reading-refused : (number : ℕ) → kindAt file labels pairs ≡ Refused number → stopOf file ≡ stopAt number labels pairs
   reading-refused number e = r .rest ∙ rw (more, scan-refused (577 - (labels + pairs + 1)) file labels pairs number e)
 
   -- the records read so far fall short of 577
   pub reading-less : labels + pairs < 577
   reading-less = let a = r .few in let b = r .fewPairs in omega arith
+
+-- the answer for the empty file, and for one that is refused at a record
+module _ (file : List ℕ) where
+  pub no-bytes : length file ≡ 0 → scanned file ≡ refused 1
+  unfolding scanned
+  no-bytes e = rw (eq-eqb (length file) 0 e)
+
+  pub some-bytes : (length file ≡ 0 → ⊥) → (s : Stop) → s ≡ stopOf file → scanned file ≡ onStop file s
+  unfolding scanned
+  some-bytes d s e = rw (ne-eqb (length file) 0 d, e)

@@ -8,22 +8,11 @@ use lib.ListN.{length}
 use Rattle.policy.proofs.Answered.{answered, answered-only}
 use Rattle.policy.proofs.Passing.{labels-bound, pairs-bound, place-within}
 use Rattle.policy.specs.File.{placeOf, countOf, pairAt}
-use Rattle.policy.specs.Rows.{RefusedAt, row-2, row-3, row-4, row-5, row-6, row-7, row-8, row-9, Reached, Answered, empty, at-record, at-end, read}
+use Rattle.policy.specs.Rows.{RefusedAt, Reached, Answered, empty, at-record, at-end, read}
 use Rattle.lists.specs.Tables.{filled}
 use Rattle.policy.specs.Whole.{refusalOf, labelsOf, pairCount, noPair}
 use Rattle.policy.specs.declared.Policy.{Policy}
 use Rattle.policy.specs.declared.Scan.{Scan}
-
--- the numbers of the rows that a record can be refused under
-pub row-number : {file : List ℕ} {labels pairs n : ℕ} → RefusedAt file labels pairs n → (2 ≤ n) × (n ≤ 9)
-row-number (row-2 r) = omega arith
-row-number (row-3 r) = omega arith
-row-number (row-4 r) = omega arith
-row-number (row-5 r) = omega arith
-row-number (row-6 r) = omega arith
-row-number (row-7 r) = omega arith
-row-number (row-8 r) = omega arith
-row-number (row-9 r) = omega arith
 
 -- the answer for a file with a given verdict and given numbers
 abbrev pub policyFrom : List ℕ → Scan → Policy

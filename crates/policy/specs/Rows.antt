@@ -10,9 +10,10 @@ use Rattle.format.specs.Bytes.{bytesAt}
 use Rattle.format.specs.Form.{NameForm}
 use Rattle.format.specs.Marks.{LB, OV}
 use Rattle.policy.specs.File.{placeOf, nameOf, pairAt}
-use Rattle.policy.specs.Whole.{refused, accepted, noPair}
+use Rattle.policy.specs.Whole.{refused, accepted, stopAt, noPair}
 use Rattle.policy.specs.declared.Policy.{Policy}
 use Rattle.policy.specs.declared.Scan.{Scan}
+use Rattle.policy.specs.declared.Stop.{Stop}
 
 -- how many bytes there are from the record's start on, and the mark that it opens with
 abbrev pub bytesLeft : List ℕ → ℕ → ℕ → ℕ
@@ -114,6 +115,11 @@ pub data Passes (file : List ℕ) : ℕ → ℕ → Type 0 where
   start : Passes file 0 0
   label : {labels pairs : ℕ} → Passes file labels pairs → LabelAt file labels pairs → Passes file (labels + 1) pairs
   over : {labels pairs : ℕ} → Passes file labels pairs → OverAt file labels pairs → Passes file labels (pairs + 1)
+
+-- where the reading of a file stops: at its first refused record, or at its end
+pub data Stops (file : List ℕ) : Stop → Type 0 where
+  refused-there : {labels pairs n : ℕ} → Passes file labels pairs → RefusedAt file labels pairs n → Stops file (stopAt n labels pairs)
+  ended-there : {labels pairs : ℕ} → Passes file labels pairs → bytesLeft file labels pairs ≡ 0 → Stops file (stopAt 0 labels pairs)
 
 -- label m is the lower of one of so many pairs
 pub record LowerOf (file : List ℕ) (labels pairs m : ℕ) : Type 0 where

@@ -14,6 +14,7 @@ use Rattle.policy.specs.declared.Kind.the-variants.{Label, Over, End, Re
 use Rattle.policy.specs.declared.Kind.{Kind}
 use Rattle.policy.specs.declared.Policy.{Policy}
 use Rattle.policy.specs.declared.Scan.{Scan}
+use Rattle.policy.specs.declared.Stop.{Stop}
 
 abbrev pub refused : ℕ → Scan
 refused number = record { refusal = number; labels = 0; pairs = 0 }
@@ -36,22 +37,37 @@ isPlaced file labels pairs m = eqb m 0 || isLower file labels pairs m
 unfoldable pub atEnd : List ℕ → ℕ → ℕ → Scan
 atEnd file labels pairs = cond (everyBelow (isPlaced file labels pairs) labels) (accepted labels pairs) (refused 10)
 
--- what each case of a record read means for the file: a label or a pair is counted and the rest read, the end is checked,
--- and the first refused record refuses its whole file
-abbrev pub onKind : (ℕ → ℕ → Scan) → List ℕ → ℕ → ℕ → Kind → Scan
-onKind rest file labels pairs (Label count) = rest (labels + 1) pairs
-onKind rest file labels pairs (Over pair) = rest labels (pairs + 1)
-onKind rest file labels pairs End = atEnd file labels pairs
-onKind rest file labels pairs (Refused number) = refused number
+-- where reading stops: behind so many labels and pairs, at a record that is refused under the number, or with 0 at the end
+abbrev pub stopAt : (number labels pairs : ℕ) → Stop
+stopAt number labels pairs = record { refusal = number; labels = labels; pairs = pairs }
 
--- the answer from the record behind so many labels and pairs on, for up to n records
-unfoldable pub scanFrom : ℕ → List ℕ → ℕ → ℕ → Scan
-scanFrom zero file labels pairs = refused 5
-scanFrom (suc n) file labels pairs = onKind (scanFrom n file) file labels pairs (kindAt file labels pairs)
+-- what each case of a record read means: a label or a pair is counted and the rest read; the end and the first refused record stop
+abbrev pub onKind : (ℕ → ℕ → Stop) → ℕ → ℕ → Kind → Stop
+onKind rest labels pairs (Label count) = rest (labels + 1) pairs
+onKind rest labels pairs (Over pair) = rest labels (pairs + 1)
+onKind rest labels pairs End = stopAt 0 labels pairs
+onKind rest labels pairs (Refused number) = stopAt number labels pairs
 
--- the answer for a file; 64 labels, 512 pairs and one record more are always enough
+-- the stop from the record behind so many labels and pairs on, for up to n records
+unfoldable pub scanFrom : ℕ → List ℕ → ℕ → ℕ → Stop
+scanFrom zero file labels pairs = stopAt 5 labels pairs
+scanFrom (suc n) file labels pairs = onKind (scanFrom n file) labels pairs (kindAt file labels pairs)
+
+-- the stop of a file; 64 labels, 512 pairs and one record more are always enough
+abbrev pub stopOf : List ℕ → Stop
+stopOf file = scanFrom 577 file 0 0
+
+-- what `records_read` answers: the records read before the file's end or its first refused record
+unfoldable pub recordsRead : List ℕ → ℕ
+recordsRead file = stopOf file .labels + stopOf file .pairs
+
+-- the first refused record refuses its whole file, and the end is checked
+abbrev pub onStop : List ℕ → Stop → Scan
+onStop file s = cond (eqb (s .refusal) 0) (atEnd file (s .labels) (s .pairs)) (refused (s .refusal))
+
+-- the answer for a file
 unfoldable pub scanned : List ℕ → Scan
-scanned file = cond (eqb (length file) 0) (refused 1) (scanFrom 577 file 0 0)
+scanned file = cond (eqb (length file) 0) (refused 1) (onStop file (stopOf file))
 
 -- the file's verdict, 0 when it is accepted, and its numbers of labels and pairs
 abbrev pub refusalOf : List ℕ → ℕ

@@ -9,7 +9,7 @@ ghost use lib.ListN.{length};
 ghost use Rattle.lists.specs.Tables.{listed, filled};
 ghost use Rattle.policy.specs.File.{placeOf, countOf, pairAt, labelNamed};
 ghost use Rattle.policy.specs.Record.{unnamedOf, withName, labelKind, overKind, recordAt};
-ghost use Rattle.policy.specs.Whole.{isLower, atEnd, scanned, noPair, policyOf};
+ghost use Rattle.policy.specs.Whole.{isLower, atEnd, stopOf, recordsRead, scanned, noPair, policyOf};
 
 // What one record is: a label with its count of accounts, an over-pair, the end of the file, or a refusal with its number.
 pub enum Kind {
@@ -23,6 +23,13 @@ pub enum Kind {
 pub struct Record {
     pub name: [u8; 8],
     pub kind: Kind,
+}
+
+// Where reading stops: behind so many labels and pairs, at a record refused under the number, or with 0 at the end.
+struct Stop {
+    refusal: u8,
+    labels: usize,
+    pairs: usize,
 }
 
 // The file's verdict, and how many labels and pairs it has; both 0 when it is refused.
@@ -197,20 +204,13 @@ fn at_end(policy: &[u8], labels: usize, pairs: usize) -> Scan
     }
 }
 
-// All records from the first on.
-fn read_records(policy: &[u8]) -> Scan
-    ensures { λ r. ⌜ r ≡ scanned (now (policy .entry)) ⌝ }
+// The records from the first on, up to the end of the file or the first refused record.
+fn read_to_stop(policy: &[u8]) -> Stop
+    ensures { λ r. ⌜ r ≡ stopOf (now (policy .entry)) ⌝ }
 {
-    if policy.len() == 0 {
-        return Scan {
-            refusal: 1,
-            labels: 0,
-            pairs: 0,
-        };
-    }
     let mut labels = 0;
     let mut pairs = 0;
-    loop {
+    let refusal = loop {
         let record = read_record(policy, labels, pairs);
         let kind = record.kind;
         match kind {
@@ -221,16 +221,47 @@ fn read_records(policy: &[u8]) -> Scan
                 pairs += 1;
             }
             Kind::End => {
-                return at_end(policy, labels, pairs);
+                break 0;
             }
             Kind::Refused(number) => {
-                return Scan {
-                    refusal: number,
-                    labels: 0,
-                    pairs: 0,
-                };
+                break number;
             }
         }
+    };
+    Stop {
+        refusal,
+        labels,
+        pairs,
+    }
+}
+
+// How many records of a policy file are read before its end or its first refused record.
+pub fn records_read(policy: &[u8]) -> usize
+    ensures { λ r. ⌜ r ≡ recordsRead (now (policy .entry)) ⌝ }
+{
+    let stop = read_to_stop(policy);
+    stop.labels + stop.pairs
+}
+
+// The verdict on the whole file.
+fn read_records(policy: &[u8]) -> Scan
+    ensures { λ r. ⌜ r ≡ scanned (now (policy .entry)) ⌝ }
+{
+    if policy.len() == 0 {
+        return Scan {
+            refusal: 1,
+            labels: 0,
+            pairs: 0,
+        };
+    }
+    let stop = read_to_stop(policy);
+    if stop.refusal == 0 {
+        return at_end(policy, stop.labels, stop.pairs);
+    }
+    Scan {
+        refusal: stop.refusal,
+        labels: 0,
+        pairs: 0,
     }
 }
 

@@ -3,10 +3,8 @@ use Prim.Native.Nat.{ℕ, _≤_}
 use mathlib.Core.List.{List}
 use mathlib.Core.Path.{_≡_}
 use native.Mathlib.Omega.{arith}
-use lib.ListN.{length, take}
+use lib.ListN.{length}
 use Rattle.buffers.proofs.Handed.{room-handed, handed-within}
-use Rattle.buffers.proofs.Writes.{put-front}
-use Rattle.buffers.specs.Handed.{handed, handedInto}
 use Rattle.buffers.specs.Put.{Put}
 use Rattle.buffers.specs.declared.Written.{Written}
 use Rattle.planner.specs.Planned.{planOf}
@@ -17,25 +15,9 @@ use Rattle.text.proofs.Plans.{text-suffices}
 
 -- the text stands at the front of the buffer
 module _ (file : List ℕ) {d e : List ℕ} {plan : Plan} {r : ℕ} (same : plan ≡ planOf file) (put : Put d e 0 (listing file plan) r) where
-  text-put : Put d e 0 (planText file) r
+  pub text-put : Put d e 0 (planText file) r
   unfolding planText
   text-put = rw same at put
-
-  pub text-length : r ≡ length (planText file)
-  text-length = omega (arith, text-put .behind)
-
-  pub text-taken : take r e ≡ planText file
-  text-taken = put-front text-put
-
-  -- its front of that length, handed out
-  module _ (out : List ℕ) where
-    pub text-written : handed (take r e) (length out) ≡ writtenOf file (length out)
-    unfolding writtenOf
-    text-written = rw text-taken
-
-    pub text-left : handedInto (take r e) out ≡ bufferAfter file out
-    unfolding bufferAfter
-    text-left = rw text-taken
 
 -- the length that is answered lies within the buffer
 pub written-within : (file out : List ℕ) (w : Written) (after : List ℕ)

@@ -9,7 +9,8 @@ use native.Mathlib.Omega.{arith}
 use borrow.Author.Tests.{ltb-true, ltb-false}
 use lib.Dec.{ltb}
 use lib.ListN.{length, getD}
-use Rattle.text.specs.Decimal.{digit, digitsBefore, decimal, valueBehind, valueOf, Decimal}
+use Rattle.format.specs.Digits.{valueBehind, valueOf}
+use Rattle.text.specs.Decimal.{digit, digitsBefore, decimal, Decimal}
 
 -- 907 is printed as `907`
 pub decimal-907 : decimal 907 ≡ 57 ∷ 48 ∷ 55 ∷ []

@@ -2,13 +2,15 @@
 use Prim.Native.Nat.{ℕ}
 use mathlib.Core.List.{List, [], _∷_}
 use mathlib.Core.Path.{_≡_, refl}
+use Rattle.format.specs.Names.{unpadded}
+use Rattle.lists.specs.Tables.{concatBelow}
 use Rattle.planner.proofs.WorkedExamples.{plan-E}
 use Rattle.policy.proofs.Examples.{E}
 use Rattle.policy.specs.File.{nameOf, countOf}
 use Rattle.policy.specs.Whole.{scanned}
 use Rattle.planner.specs.Planned.{planned, planOf}
 use Rattle.text.specs.Decimal.{digitsBefore, decimal}
-use Rattle.text.specs.Listing.{unpadded, parentName, names, numbers, line, lines, worded, lastLine, refusedLine, listing, planText}
+use Rattle.text.specs.Listing.{parentName, names, numbers, line, worded, lastLine, refusedLine, listing, planText}
 
 -- SUITE - 2 1 2
 -- CURVES SUITE 3 2 3
@@ -24,7 +26,7 @@ listingE =
     ∷ 84 ∷ 79 ∷ 84 ∷ 65 ∷ 76 ∷ 32 ∷ 49 ∷ 55 ∷ 10 ∷ []
 
 pub text-E : planText E ≡ listingE
-unfolding planText listing lines line lastLine names numbers worded parentName unpadded nameOf countOf decimal digitsBefore
+unfolding planText listing concatBelow line lastLine names numbers worded parentName unpadded nameOf countOf decimal digitsBefore
 text-E = rw plan-E
 
 -- REFUSED 1

@@ -1,4 +1,3 @@
-pub mod Names
 pub mod Gathering
 pub mod Digits
 pub mod Parts

@@ -1,16 +1,15 @@
 -- The parts of a listing, and their lengths.
-use Prim.Native.Nat.{ℕ, zero, suc, _+_, _≤_, _<_}
+use Prim.Native.Nat.{ℕ, suc, _+_}
 use mathlib.Core.List.{List, _++_}
-use mathlib.Core.Logic.{⊎-elim}
 use mathlib.Core.Path.{_≡_}
-use native.Mathlib.Nat.{eq-or-lt-of-le, le-of-suc-le-suc}
 use native.Mathlib.Omega.{arith}
 use borrow.Author.Tests.{eq-eqb, ne-eqb}
 use lib.ListN.{length, getD, length-append}
+use Rattle.format.specs.Names.{unpadded}
 use Rattle.policy.specs.File.{nameOf, countOf}
 use Rattle.planner.specs.declared.Plan.{Plan}
 use Rattle.text.specs.Decimal.{decimal}
-use Rattle.text.specs.Listing.{newline, dash, unpadded, parentName, names, numbers, line, lines, worded, totalWord, refusedWord, lastLine, refusedLine, listing}
+use Rattle.text.specs.Listing.{newline, dash, parentName, names, numbers, line, lines, worded, totalWord, refusedWord, lastLine, refusedLine, listing}
 
 pub worded-length : (word : List ℕ) (x : ℕ) → length (worded word x) ≡ length word + suc (length (decimal x)) + 1
 unfolding worded
@@ -45,14 +44,6 @@ module _ (file : List ℕ) (plan : Plan) (m : ℕ) where
     line-length = rw line-parts (simp length-append)
 
 module _ (file : List ℕ) (plan : Plan) where
-  -- each line is one of the lines
-  pub lines-fit : (n m : ℕ) → m < n → length (lines file plan m) + length (line file plan m) ≤ length (lines file plan n)
-  unfolding lines
-  lines-fit zero m h = absurd (omega arith)
-  lines-fit (suc n) m h =
-      let l = length-append (lines file plan n) (line file plan n) in
-      ⊎-elim (λ (e : m ≡ n). rw e (omega arith)) (λ (k : m < n). omega (arith, lines-fit n m k)) (eq-or-lt-of-le (le-of-suc-le-suc h))
-
   -- the text of a refused policy and of an accepted one
   pub listing-refused : (plan .refusal ≡ 0 → ⊥) → listing file plan ≡ worded refusedWord (plan .refusal)
   unfolding listing refusedLine

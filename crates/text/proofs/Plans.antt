@@ -1,11 +1,14 @@
 -- The plan of every policy file can be printed, and 4,096 bytes always have room for its text.
-use Prim.Native.Nat.{ℕ, zero, suc, _+_, _*_, _≤_}
+use Prim.Native.Nat.{ℕ, _+_, _*_, _≤_}
 use mathlib.Core.Bool.{Bool, true, false, cond}
 use mathlib.Core.List.{List, _++_}
 use mathlib.Core.Path.{refl}
 use native.Mathlib.Omega.{arith}
 use lib.Dec.{eqb}
 use lib.ListN.{length, getD, drop, length-append, length-take}
+use Rattle.format.proofs.Padding.{unpadded-short}
+use Rattle.format.specs.Names.{unpadded}
+use Rattle.lists.proofs.Concat.{concat-short}
 use Rattle.lists.proofs.Tables.{getD-filled}
 use Rattle.policy.proofs.Verdict.{bounds}
 use Rattle.policy.specs.File.{nameOf, countOf}
@@ -14,9 +17,8 @@ use Rattle.trees.specs.Weights.{plan as tree}
 use Rattle.weights.proofs.Reading.{plan-early}
 use Rattle.planner.specs.Planned.{testOf, planned, planOf}
 use Rattle.planner.specs.declared.Plan.{Plan}
-use Rattle.text.specs.Listing.{dash, unpadded, parentName, line, lines, totalWord, refusedWord, lastLine, refusedLine, listing, planText}
+use Rattle.text.specs.Listing.{dash, parentName, line, lines, totalWord, refusedWord, lastLine, refusedLine, listing, planText}
 use Rattle.text.specs.Printable.{Printable}
-use Rattle.text.proofs.Names.{unpadded-short}
 use Rattle.text.proofs.Digits.{decimal-short}
 use Rattle.text.proofs.Parts.{worded-length, names-length, numbers-length, line-length}
 
@@ -29,7 +31,7 @@ plan-printable file = record {
 }
 
 -- a name has at most 8 bytes
-name-short : (file : List ℕ) (m : ℕ) → length (unpadded (nameOf file m)) ≤ 8
+pub name-short : (file : List ℕ) (m : ℕ) → length (unpadded (nameOf file m)) ≤ 8
 unfolding nameOf
 name-short file m = omega (arith, unpadded-short (nameOf file m), length-take 8 (drop (12 * m + 2) file))
 
@@ -60,11 +62,6 @@ module _ (file : List ℕ) (plan : Plan) where
         decimal-short count,
       )
 
-  lines-short : (n : ℕ) → length (lines file plan n) ≤ 51 * n
-  unfolding lines
-  lines-short zero = omega arith
-  lines-short (suc n) = omega (arith, length-append (lines file plan n) (line file plan n), lines-short n, line-short n)
-
   listing-short : plan .labels ≤ 64 → length (listing file plan) ≤ 3281
   unfolding listing lastLine refusedLine
   listing-short few = go (eqb (plan .refusal) 0)
@@ -74,7 +71,7 @@ module _ (file : List ℕ) (plan : Plan) where
           omega (
             arith,
             length-append (lines file plan (plan .labels)) (lastLine plan),
-            lines-short (plan .labels),
+            concat-short (line file plan) 51 line-short (plan .labels),
             worded-length totalWord (plan .total),
             decimal-short (plan .total),
           )

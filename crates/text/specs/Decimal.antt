@@ -1,10 +1,11 @@
 -- "Printed numbers are decimal without leading zeros", in ASCII.
-use Prim.Native.Nat.{ℕ, zero, suc, _+_, _-_, _*_, _/_, _%_, _≤_}
+use Prim.Native.Nat.{ℕ, zero, suc, _+_, _/_, _%_, _≤_}
 use mathlib.Core.Bool.{cond}
 use mathlib.Core.List.{List, [], _∷_, List·Memᴰ}
 use mathlib.Core.Path.{_≡_}
 use lib.Dec.{ltb}
 use lib.ListN.{length, getD}
+use Rattle.format.specs.Digits.{valueOf}
 
 -- the sign of a digit
 abbrev pub digit : ℕ → ℕ
@@ -18,14 +19,6 @@ digitsBefore (suc n) x behind = cond (ltb x 10) (digit x ∷ behind) (digitsBefo
 -- a number below 10 ^ 10, so any of 32 bits
 unfoldable pub decimal : ℕ → List ℕ
 decimal x = digitsBefore 10 x []
-
--- what digits say, behind others that say x, and by themselves
-unfoldable pub valueBehind : (x : ℕ) → List ℕ → ℕ
-valueBehind x [] = x
-valueBehind x (b ∷ bs) = valueBehind (10 * x + (b - 48)) bs
-
-abbrev pub valueOf : List ℕ → ℕ
-valueOf s = valueBehind 0 s
 
 -- "decimal without leading zeros": s says x, has nothing but digits, and opens with a zero only if that is all
 pub record Decimal (x : ℕ) (s : List ℕ) : Type 0 where

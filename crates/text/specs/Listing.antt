@@ -1,9 +1,11 @@
 -- The plan as text (01, "The plan program and its text"), in ASCII: "one space parts the fields, and every line ends in one line feed".
-use Prim.Native.Nat.{ℕ, zero, suc}
+use Prim.Native.Nat.{ℕ}
 use mathlib.Core.Bool.{cond}
 use mathlib.Core.List.{List, [], _∷_, _++_}
 use lib.Dec.{eqb}
 use lib.ListN.{getD}
+use Rattle.format.specs.Names.{unpadded}
+use Rattle.lists.specs.Tables.{concatBelow}
 use Rattle.policy.specs.File.{nameOf, countOf}
 use Rattle.trees.specs.Trees.{top}
 use Rattle.planner.specs.Planned.{planOf}
@@ -28,11 +30,6 @@ totalWord = 84 ∷ 79 ∷ 84 ∷ 65 ∷ 76 ∷ []
 abbrev pub refusedWord : List ℕ
 refusedWord = 82 ∷ 69 ∷ 70 ∷ 85 ∷ 83 ∷ 69 ∷ 68 ∷ []
 
--- "name without padding": the bytes before the first space
-unfoldable pub unpadded : List ℕ → List ℕ
-unpadded [] = []
-unpadded (b ∷ bs) = cond (eqb b 32) [] (b ∷ unpadded bs)
-
 -- "parent's name (`-` for the top)"
 unfoldable pub parentName : List ℕ → Plan → ℕ → List ℕ
 parentName file plan m = cond (eqb m top) dash (unpadded (nameOf file (getD (plan .parents) m 0)))
@@ -50,9 +47,8 @@ unfoldable pub line : List ℕ → Plan → ℕ → List ℕ
 line file plan m = names file plan m ++ numbers (getD (plan .weights) m 0) (getD (plan .sizes) m 0) (countOf file m) ++ newline
 
 -- the lines of the first n labels
-unfoldable pub lines : List ℕ → Plan → ℕ → List ℕ
-lines file plan zero = []
-lines file plan (suc m) = lines file plan m ++ line file plan m
+abbrev pub lines : List ℕ → Plan → ℕ → List ℕ
+lines file plan n = concatBelow (line file plan) n
 
 -- a line of a word and a number
 unfoldable pub worded : List ℕ → ℕ → List ℕ

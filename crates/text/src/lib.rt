@@ -6,33 +6,20 @@ ghost use Prim.Native.Nat.{_+_, _*_, _≤_, _<_};
 ghost use mathlib.Core.List.{_++_};
 ghost use lib.ListN.{length};
 ghost use Rattle.buffers.specs.Put.{Put};
+ghost use Rattle.format.specs.Names.{unpadded};
 ghost use Rattle.policy.specs.File.{nameOf};
 ghost use Rattle.text.specs.Decimal.{decimal};
-ghost use Rattle.text.specs.Listing.{space, unpadded, parentName, names, numbers, line, lines, worded, listing};
+ghost use Rattle.text.specs.Listing.{space, parentName, names, numbers, line, lines, worded, listing};
 ghost use Rattle.text.specs.Answer.{writtenOf, bufferAfter};
 ghost use Rattle.text.specs.Printable.{Printable};
 
-// How many bytes stand before a name's first space.
-fn unpadded_length(name: &[u8]) -> usize
-    ensures { λ r. ⌜ r ≡ length (unpadded (now (name .entry))) ⌝ }
-{
-    let mut i = 0;
-    while i < name.len() {
-        if name[i] == b' ' {
-            return i;
-        }
-        i += 1;
-    }
-    i
-}
-
 // Writes the name of label `m` without its padding.
-fn put_name(policy: &[u8], m: usize, out: &mut [u8], at: usize) -> usize
+pub fn put_name(policy: &[u8], m: usize, out: &mut [u8], at: usize) -> usize
     requires { ⌜ (12 * m + 12 ≤ length (now policy)) × (at + length (unpadded (nameOf (now policy) m)) ≤ length (now out)) ⌝ }
     ensures { λ r. ⌜ Put (now (out .entry)) (now (out .exit)) at (unpadded (nameOf (now (policy .entry)) m)) r ⌝ }
 {
     let name = format::read_name(policy, 12 * m + 2);
-    let end = unpadded_length(&name);
+    let end = format::unpadded_length(&name);
     buffers::put_bytes(out, at, &name[..end])
 }
 
@@ -54,7 +41,7 @@ fn put_decimal(out: &mut [u8], at: usize, x: u32) -> usize
 }
 
 // Writes a space and a number.
-fn put_number(out: &mut [u8], at: usize, x: u32) -> usize
+pub fn put_number(out: &mut [u8], at: usize, x: u32) -> usize
     requires { ⌜ at + length (space ++ decimal x) ≤ length (now out) ⌝ }
     ensures { λ r. ⌜ Put (now (out .entry)) (now (out .exit)) at (space ++ decimal x) r ⌝ }
 {
@@ -63,7 +50,7 @@ fn put_number(out: &mut [u8], at: usize, x: u32) -> usize
 }
 
 // Writes a line of a word and a number.
-fn put_worded(out: &mut [u8], at: usize, word: &[u8], x: u32) -> usize
+pub fn put_worded(out: &mut [u8], at: usize, word: &[u8], x: u32) -> usize
     requires { ⌜ at + length (worded (now word) x) ≤ length (now out) ⌝ }
     ensures { λ r. ⌜ Put (now (out .entry)) (now (out .exit)) at (worded (now (word .entry)) x) r ⌝ }
 {

@@ -13,7 +13,7 @@ use Rattle.lists.proofs.Tables.{fill-more}
 use Rattle.trees.specs.Trees.{top}
 use Rattle.weights.specs.Tables.{entries}
 use Rattle.envelopes.specs.Secrets.{secretOf}
-use Rattle.writer.specs.Asks.{Falling, marked, Needed, secretIn, Made}
+use Rattle.writer.specs.Asks.{ParentsFall, isMarked, Needed, secretAt, Made}
 
 -- the marks are filled in from the front
 pub mark-filled : (f : ℕ → Bool) (marks : List Bool) (n : ℕ) (mark : Bool) → marks ≡ filled 64 false f n → mark ≡ f n → n < 64
@@ -21,15 +21,15 @@ pub mark-filled : (f : ℕ → Bool) (marks : List Bool) (n : ℕ) (mark : Bool)
 mark-filled f marks n mark e h l = ap₂ (λ (t : List Bool) (b : Bool). set t n b) e h ∙ fill-more f 64 false n l
 
 -- one mark alone
-pub mark-alone : (m : ℕ) → m < 64 → marked (set (replicate 64 false) m true) m ≡ true
+pub mark-alone : (m : ℕ) → m < 64 → isMarked (set (replicate 64 false) m true) m ≡ true
 mark-alone m h = getD-set-same (replicate 64 false) m true false h
 
 -- a mark more takes none away
-mark-stays : (marks : List Bool) (p m : ℕ) → p < length marks → marked marks m ≡ true → marked (set marks p true) m ≡ true
+mark-stays : (marks : List Bool) (p m : ℕ) → p < length marks → isMarked marks m ≡ true → isMarked (set marks p true) m ≡ true
 mark-stays marks p m h y = go (ℕ-discrete m p)
   where
-    go : Dec (m ≡ p) → marked (set marks p true) m ≡ true
-    go (yes e) = ap (marked (set marks p true)) e ∙ getD-set-same marks p true false h
+    go : Dec (m ≡ p) → isMarked (set marks p true) m ≡ true
+    go (yes e) = ap (isMarked (set marks p true)) e ∙ getD-set-same marks p true false h
     go (no ne) = getD-set-other marks p m true false ne ∙ y
 
 -- the labels are gone through downwards
@@ -45,25 +45,25 @@ module _ {held : List Bool} {parents : List ℕ} {labels : ℕ} where
     pub needed-more : (m p : ℕ) → from ≤ m + 1 → p ≡ entries parents m → p < m → m < length needed → Needed held (set needed p true) parents m labels
     needed-more m p f e lt len = record { kept = λ i h. stays i (n .kept i h); above = up }
       where
-        stays : (i : ℕ) → marked needed i ≡ true → marked (set needed p true) i ≡ true
+        stays : (i : ℕ) → isMarked needed i ≡ true → isMarked (set needed p true) i ≡ true
         stays i = mark-stays needed p i (omega arith)
 
-        up : (i : ℕ) → m ≤ i → i < labels → marked (set needed p true) i ≡ true → marked (set needed p true) (entries parents i) ≡ true
+        up : (i : ℕ) → m ≤ i → i < labels → isMarked (set needed p true) i ≡ true → isMarked (set needed p true) (entries parents i) ≡ true
         up i l il h = go (ℕ-discrete i m)
           where
-            go : Dec (i ≡ m) → marked (set needed p true) (entries parents i) ≡ true
-            go (yes same) = ap (marked (set needed p true)) (ap (entries parents) same ∙ sym e) ∙ getD-set-same needed p true false (omega arith)
+            go : Dec (i ≡ m) → isMarked (set needed p true) (entries parents i) ≡ true
+            go (yes same) = ap (isMarked (set needed p true)) (ap (entries parents) same ∙ sym e) ∙ getD-set-same needed p true false (omega arith)
             go (no other) = stays (entries parents i) (n .above i (omega arith) il (sym (getD-set-other needed p i true false (λ q. omega arith)) ∙ h))
 
     -- the next label is not marked
-    pub needed-same : (m : ℕ) → from ≤ m + 1 → marked needed m ≡ false → Needed held needed parents m labels
+    pub needed-same : (m : ℕ) → from ≤ m + 1 → isMarked needed m ≡ false → Needed held needed parents m labels
     needed-same m f no-mark = record { kept = n .kept; above = up }
       where
-        up : (i : ℕ) → m ≤ i → i < labels → marked needed i ≡ true → marked needed (entries parents i) ≡ true
+        up : (i : ℕ) → m ≤ i → i < labels → isMarked needed i ≡ true → isMarked needed (entries parents i) ≡ true
         up i l il h = go (ℕ-discrete i m)
           where
-            go : Dec (i ≡ m) → marked needed (entries parents i) ≡ true
-            go (yes same) = absurd (false≢true (sym no-mark ∙ ap (marked needed) (sym same) ∙ h))
+            go : Dec (i ≡ m) → isMarked needed (entries parents i) ≡ true
+            go (yes same) = absurd (false≢true (sym no-mark ∙ ap (isMarked needed) (sym same) ∙ h))
             go (no other) = n .above i (omega arith) il h
 
 -- the secrets are made upwards
@@ -76,29 +76,29 @@ module _ {name : ℕ → List ℕ} {parents root : List ℕ} {needed : List Bool
         → Made name parents root needed (set secrets m secret) (m + 1)
     made-more secret e len = record { secret = at }
       where
-        at : (i : ℕ) → i < m + 1 → marked needed i ≡ true → secretIn (set secrets m secret) i ≡ secretOf name (entries parents) root i
+        at : (i : ℕ) → i < m + 1 → isMarked needed i ≡ true → secretAt (set secrets m secret) i ≡ secretOf name (entries parents) root i
         at i l h = go (ℕ-discrete i m)
           where
-            go : Dec (i ≡ m) → secretIn (set secrets m secret) i ≡ secretOf name (entries parents) root i
+            go : Dec (i ≡ m) → secretAt (set secrets m secret) i ≡ secretOf name (entries parents) root i
             go (yes same) =
-                ap (secretIn (set secrets m secret)) same ∙ getD-set-same secrets m secret [] len ∙ e
+                ap (secretAt (set secrets m secret)) same ∙ getD-set-same secrets m secret [] len ∙ e
                 ∙ ap (secretOf name (entries parents) root) (sym same)
             go (no other) = getD-set-other secrets m i secret [] other ∙ d .secret i (omega arith) h
 
-    pub made-same : marked needed m ≡ false → Made name parents root needed secrets (m + 1)
+    pub made-same : isMarked needed m ≡ false → Made name parents root needed secrets (m + 1)
     made-same no-mark = record { secret = at }
       where
-        at : (i : ℕ) → i < m + 1 → marked needed i ≡ true → secretIn secrets i ≡ secretOf name (entries parents) root i
+        at : (i : ℕ) → i < m + 1 → isMarked needed i ≡ true → secretAt secrets i ≡ secretOf name (entries parents) root i
         at i l h = go (ℕ-discrete i m)
           where
-            go : Dec (i ≡ m) → secretIn secrets i ≡ secretOf name (entries parents) root i
-            go (yes same) = absurd (false≢true (sym no-mark ∙ ap (marked needed) (sym same) ∙ h))
+            go : Dec (i ≡ m) → secretAt secrets i ≡ secretOf name (entries parents) root i
+            go (yes same) = absurd (false≢true (sym no-mark ∙ ap (isMarked needed) (sym same) ∙ h))
             go (no other) = d .secret i (omega arith) h
 
     module _ {held : List Bool} {labels : ℕ} (n : Needed held needed parents 1 labels) where
       -- the parent of the next label has its secret in the table
-      pub made-above : Falling parents labels → m < labels → marked needed m ≡ true → m ≢ top
-          → secretIn secrets (entries parents m) ≡ secretOf name (entries parents) root (entries parents m)
+      pub made-above : ParentsFall parents labels → m < labels → isMarked needed m ≡ true → m ≢ top
+          → secretAt secrets (entries parents m) ≡ secretOf name (entries parents) root (entries parents m)
       made-above falls l h ne = d .secret (entries parents m) (falls m l ne) (n .above m (omega arith) l h)
 
       pub made-held : Made name parents root held secrets m

@@ -19,7 +19,7 @@ use Rattle.envelopes.specs.Secrets.{secretOf}
 use Rattle.envelopes.specs.Envelope.{heldRecord, underRecord, header, placeBelow, recordOf, recordsBelow, envelopeOf}
 use Rattle.envelopes.proofs.Places.{place-here, place-skip}
 use Rattle.envelopes.proofs.Written.{records-here, records-skip}
-use Rattle.writer.specs.Asks.{Falling, marked, secretIn, Made}
+use Rattle.writer.specs.Asks.{ParentsFall, isMarked, secretAt, Made}
 
 module _ (le : ℕ → ℕ → Bool) (l m k : ℕ) (e : k ≡ placeBelow le l m) where
   -- the next label's place, label m being at or below l or not
@@ -85,16 +85,16 @@ module _ (name : ℕ → List ℕ) (le : ℕ → ℕ → Bool) (parent : ℕ →
 -- the same record from the tables of held labels, of secrets and of places
 module _ (le : ℕ → ℕ → Bool) (l : ℕ) {name : ℕ → List ℕ} {parents root : List ℕ} {labels : ℕ} {held : List Bool} {secrets : List (List ℕ)} {places : List ℕ}
     (h : held ≡ filled 64 false (inSmallest le (entries parents) l) labels) (d : Made name parents root held secrets labels)
-    (p : places ≡ filled 64 0 (placeBelow le l) labels) (falls : Falling parents labels) where
+    (p : places ≡ filled 64 0 (placeBelow le l) labels) (falls : ParentsFall parents labels) where
   pub table-record : (m : ℕ) → m < labels → le m l ≡ true
-      → cond (marked held m) (heldRecord (name m) (secretIn secrets m)) (underRecord (name m) (entries places (entries parents m)))
+      → cond (isMarked held m) (heldRecord (name m) (secretAt secrets m)) (underRecord (name m) (entries places (entries parents m)))
       ≡ recordOf name le (entries parents) root l m
-  table-record m lt y = record-made name le (entries parents) root l m (marked held m) (secretIn secrets m) (entries places (entries parents m)) is (d .secret m lt) place
+  table-record m lt y = record-made name le (entries parents) root l m (isMarked held m) (secretAt secrets m) (entries places (entries parents m)) is (d .secret m lt) place
     where
-      is : marked held m ≡ inSmallest le (entries parents) l m
-      is = ap (λ (t : List Bool). marked t m) h ∙ getD-filled (inSmallest le (entries parents) l) 64 false labels m false lt
+      is : isMarked held m ≡ inSmallest le (entries parents) l m
+      is = ap (λ (t : List Bool). isMarked t m) h ∙ getD-filled (inSmallest le (entries parents) l) 64 false labels m false lt
 
-      place : marked held m ≡ false → entries places (entries parents m) ≡ placeBelow le l (entries parents m)
+      place : isMarked held m ≡ false → entries places (entries parents m) ≡ placeBelow le l (entries parents m)
       place f =
-          let up : entries parents m < m = falls m lt (under-other le (entries parents) l m (marked held m) y is f) in
+          let up : entries parents m < m = falls m lt (under-other le (entries parents) l m (isMarked held m) y is f) in
           ap (λ (t : List ℕ). entries t (entries parents m)) p ∙ entries-filled (placeBelow le l) labels (entries parents m) (omega arith)

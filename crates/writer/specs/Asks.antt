@@ -10,29 +10,29 @@ use Rattle.weights.specs.Tables.{entries}
 use Rattle.envelopes.specs.Secrets.{secretOf}
 
 -- each of so many labels but the top has a parent of a smaller number
-abbrev pub Falling : (parents : List ℕ) (labels : ℕ) → Type 0
-Falling parents labels = (m : ℕ) → m < labels → m ≢ top → entries parents m < m
+abbrev pub ParentsFall : (parents : List ℕ) (labels : ℕ) → Type 0
+ParentsFall parents labels = (m : ℕ) → m < labels → m ≢ top → entries parents m < m
 
 -- and they lie within the file
 pub record Hung (file parents : List ℕ) (labels : ℕ) : Type 0 where
   pub few : labels ≤ 64
   pub within : 12 * labels ≤ length file
-  pub falls : Falling parents labels
+  pub falls : ParentsFall parents labels
   pub under : entries parents top < 64
 
 -- whether a table of marks has label m marked
-abbrev pub marked : List Bool → ℕ → Bool
-marked marks m = getD marks m false
+abbrev pub isMarked : List Bool → ℕ → Bool
+isMarked marks m = getD marks m false
 
 -- the held labels are marked as needed, and so is the parent of each needed label of number `from` or more
 pub record Needed (held needed : List Bool) (parents : List ℕ) (from labels : ℕ) : Type 0 where
-  pub kept : (m : ℕ) → marked held m ≡ true → marked needed m ≡ true
-  pub above : (m : ℕ) → from ≤ m → m < labels → marked needed m ≡ true → marked needed (entries parents m) ≡ true
+  pub kept : (m : ℕ) → isMarked held m ≡ true → isMarked needed m ≡ true
+  pub above : (m : ℕ) → from ≤ m → m < labels → isMarked needed m ≡ true → isMarked needed (entries parents m) ≡ true
 
 -- a table of secrets by label
-abbrev pub secretIn : List (List ℕ) → ℕ → List ℕ
-secretIn secrets m = getD secrets m []
+abbrev pub secretAt : List (List ℕ) → ℕ → List ℕ
+secretAt secrets m = getD secrets m []
 
 -- the table has the secret of each marked label
 pub record Made (name : ℕ → List ℕ) (parents root : List ℕ) (marks : List Bool) (secrets : List (List ℕ)) (labels : ℕ) : Type 0 where
-  pub secret : (m : ℕ) → m < labels → marked marks m ≡ true → secretIn secrets m ≡ secretOf name (entries parents) root m
+  pub secret : (m : ℕ) → m < labels → isMarked marks m ≡ true → secretAt secrets m ≡ secretOf name (entries parents) root m

@@ -16,7 +16,7 @@ ghost use Rattle.trees.specs.Weights.{inSmallest};
 ghost use Rattle.weights.specs.Tables.{entries, Rowed};
 ghost use Rattle.envelopes.specs.Secrets.{secretOf};
 ghost use Rattle.envelopes.specs.Envelope.{header, heldRecord, underRecord, placeBelow, recordsBelow, envelopeOf};
-ghost use Rattle.writer.specs.Asks.{Falling, Hung, Needed, secretIn, Made};
+ghost use Rattle.writer.specs.Asks.{ParentsFall, Hung, Needed, secretAt, Made};
 
 // Writes the header from the buffer's start on.
 fn put_header(out: &mut [u8], account: u32, name: [u8; 8]) -> usize
@@ -84,7 +84,7 @@ fn held_labels(labels: usize, rows: &[[bool; 64]; 64], parents: &[u8; 64], l: us
 
 // The held labels and those that they hang from, up to the top: each label's parent is marked before the parent's own turn comes.
 fn with_parents(labels: usize, parents: &[u8; 64], held: [bool; 64]) -> [bool; 64]
-    requires { ⌜ (labels ≤ 64) × Falling (now parents) labels ⌝ }
+    requires { ⌜ (labels ≤ 64) × ParentsFall (now parents) labels ⌝ }
     ensures { λ r. ⌜ Needed held r (now (parents .entry)) 1 labels ⌝ }
 {
     let mut needed = held;
@@ -107,7 +107,7 @@ fn next_secret(
     secrets: &[[u8; 32]; 64],
     m: usize,
 ) -> [u8; 32]
-    requires { ⌜ Hung (now policy) (now parents) (m + 1) × (m ≢ top → secretIn (now secrets) (entries (now parents) m) ≡ secretOf (nameOf (now policy)) (entries (now parents)) root (entries (now parents) m)) ⌝ }
+    requires { ⌜ Hung (now policy) (now parents) (m + 1) × (m ≢ top → secretAt (now secrets) (entries (now parents) m) ≡ secretOf (nameOf (now policy)) (entries (now parents)) root (entries (now parents) m)) ⌝ }
     ensures { λ r. ⌜ r ≡ secretOf (nameOf (now (policy .entry))) (entries (now (parents .entry))) root m ⌝ }
 {
     if m == 0 {

@@ -1,10 +1,10 @@
--- `desk::read_records` meets its contract. Invariant: the file's answer is that of its rest, behind the records read.
+-- `desk::read_records` meets its contract. Invariant: the file's answer and count are those of its rest, behind the records read.
 use Prim.Native.Nat.{_-_}
 use mathlib.Core.Path.{sym, _∙_}
 use native.Mathlib.Omega.{arith}
 use borrow.Author.Needs.{needs}
 use denote.Ref.{now}
-use Rattle.desk.proofs.Reading.{Reading, reading-start, reading-located, reading-held, reading-under, reading-end, reading-refused}
+use Rattle.desk.proofs.Reading.{Reading, reading-start, reading-located, reading-held, reading-under, reading-end, reading-refused, counted-end, counted-refused}
 use Rattle.desk.proofs.read_records.Statement.{statement}
 use Rattle.desk.proofs.read_records.Tie as tie
 
@@ -97,22 +97,20 @@ returns c =
     let l = c .before .before .before .before .loop in
     let file = now (c .before .before .before .before .before .before .args .envelope) in
     let e = sym (c .before .before .read-record .ensures) ∙ c .enum-told3 .given .1 in
-    sym (reading-end file (l .starts) (l .records) (l .at) (l .inv) e)
+    (reading-end file (l .starts) (l .records) (l .at) (l .inv) e, counted-end file (l .starts) (l .records) (l .at) (l .inv) e)
 
 enum-known-kind : tie.Need-enum-known-kind Inv-loop μ-loop
 enum-known-kind c = search needs
 
-refused-contents-requires : tie.Need-refused-contents-requires Inv-loop μ-loop
-refused-contents-requires c κs = search needs
-
 returns-2 : tie.Need-returns-2 Inv-loop μ-loop
 returns-2 c =
-    let b = c .before .before .before .before in
+    let b = c .before .before .before in
     let l = b .before .before .loop in
     let file = now (b .before .before .before .before .args .envelope) in
-    let told = c .before .before .kind .given in
+    let told = c .before .kind .given in
+    let number = told .0 .0 in
     let e = sym (b .read-record .ensures) ∙ told .1 in
-    c .refused-contents .ensures ∙ sym (reading-refused file (l .starts) (l .records) (l .at) (l .inv) (told .0 .0) e)
+    (reading-refused file (l .starts) (l .records) (l .at) (l .inv) number e, counted-refused file (l .starts) (l .records) (l .at) (l .inv) number e)
 
 pub read-records-spec : {M : Type 1} → statement M
 read-records-spec =
@@ -139,5 +137,4 @@ read-records-spec =
     enum-told-3
     returns
     enum-known-kind
-    refused-contents-requires
     returns-2)

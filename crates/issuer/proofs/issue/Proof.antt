@@ -1,11 +1,12 @@
 -- `issuer::issue` meets its contract: each refusal in its turn, with the buffer as it was, then the envelope of the label asked for.
+use mathlib.Core.Bool.{false}
 use mathlib.Core.Path.{sym, ap, _∙_}
 use native.Mathlib.Omega.{arith}
-use lib.ListN.{length}
+use lib.ListN.{length, replicate}
 use borrow.Author.Needs.{needs}
 use Rattle.issuer.specs.Issue.{refusedIssue}
 use Rattle.issuer.proofs.Answers.{account-whole, issue-policy, asked-13, number-refuses, issued-at, buffer-at}
-use Rattle.issuer.proofs.Tables.{plan-number, plan-within, plan-accepted, plan-hung, asked-told, told-below, told-within, envelope-made}
+use Rattle.issuer.proofs.Tables.{plan-number, plan-within, plan-accepted, plan-rows, plan-hung, asked-told, told-below, told-within, envelope-made}
 use Rattle.issuer.proofs.issue.Statement.{statement}
 use Rattle.issuer.proofs.issue.Tie as tie
 
@@ -48,7 +49,7 @@ returns-3 c =
     let number = n .account-refusal .ensures in
     let none = s .before .before .if2 .left in
     let whole = account-whole (a .policy .now) (a .root .now) (a .account) (l .l .given .0 .0) number none in
-    let made = envelope-made (a .policy .now) same (a .root .now) whole (s .read-secret .ensures) (l .l .given .0 .0) (a .account) (p .plan-order .ensures .1) in (
+    let made = envelope-made (a .policy .now) same (a .root .now) whole (s .read-secret .ensures) (l .l .given .0 .0) (a .account) (p .plan-order .ensures .1 ∙ plan-rows (a .policy .now) same (f .before .if1 .left) (replicate 64 (replicate 64 false))) in (
       issued-at (a .policy .now) (a .name .now) (a .account) (a .root .now) ok at number none made (length out) (i .issue-label .ensures .0),
       buffer-at (a .policy .now) (a .name .now) (a .account) (a .root .now) ok at number none made out (i .issue-label .ensures .1),
     )

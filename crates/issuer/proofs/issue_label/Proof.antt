@@ -1,4 +1,5 @@
 -- `issuer::issue_label` meets its contract.
+use mathlib.Core.Path.{ap}
 use native.Mathlib.Omega.{arith}
 use lib.ListN.{length}
 use borrow.Author.Needs.{needs}
@@ -6,7 +7,9 @@ use Rattle.envelopes.specs.Envelope.{envelopeOf}
 use Rattle.order.specs.Table.{atOrBelow}
 use Rattle.policy.specs.File.{nameOf}
 use Rattle.weights.specs.Tables.{entries}
-use Rattle.issuer.proofs.Handing.{envelope-upto, front-length, front-issued, front-left}
+use Rattle.buffers.proofs.Handed.{front-length, front-handed, front-left}
+use Rattle.issuer.specs.Issue.{issued}
+use Rattle.issuer.proofs.Handing.{envelope-upto}
 use Rattle.issuer.proofs.issue_label.Statement.{statement}
 use Rattle.issuer.proofs.issue_label.Tie as tie
 
@@ -19,7 +22,7 @@ returns c =
     let e =
     envelopeOf (nameOf (a .policy .now)) (atOrBelow (a .rows .now)) (entries (a .parents .now)) (a .root) (a .l) (a .labels) (a .account) in
     let put = w .write-envelope .ensures in
-    (front-issued {s = e} put (length out) (h .hand-out .ensures .0), front-left {s = e} put out (h .hand-out .ensures .1))
+    (ap issued (front-handed {s = e} put (length out) (h .hand-out .ensures .0)), front-left {s = e} put out (h .hand-out .ensures .1))
 
 slice-aggregate-write-envelope : tie.Need-slice-aggregate-write-envelope
 slice-aggregate-write-envelope c = search needs

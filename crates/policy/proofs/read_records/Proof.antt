@@ -1,105 +1,38 @@
--- `policy::read_records` meets its contract. Invariant: the file's answer is that of its rest, behind the labels and pairs read.
-use Prim.Native.Nat.{_+_, _-_}
+-- `policy::read_records` meets its contract: the empty file is refused, else the answer is that of the stop.
 use mathlib.Core.Path.{sym, _∙_}
 use native.Mathlib.Omega.{arith}
 use borrow.Author.Needs.{needs}
+use borrow.Author.Tests.{eq-eqb, ne-eqb}
 use denote.Ref.{now}
-use Rattle.policy.proofs.Records.{Reading, kind-of, no-bytes, reading-start, reading-label, reading-over, reading-end, reading-refused}
+use Rattle.policy.proofs.Records.{no-bytes, some-bytes}
+use Rattle.policy.proofs.Stopping.{stop-bounds}
 use Rattle.policy.proofs.read_records.Statement.{statement}
 use Rattle.policy.proofs.read_records.Tie as tie
 
-abbrev Inv-loop : tie.InvT-loop
-Inv-loop policy labels₀ pairs₀ labels pairs = Reading policy labels pairs
-
-abbrev μ-loop : tie.MeasureT-loop
-μ-loop policy labels₀ pairs₀ labels pairs = 577 - (labels + pairs)
-
-returns : tie.Need-returns Inv-loop μ-loop
+returns : tie.Need-returns
 returns c = sym (no-bytes (now (c .before .before .args .policy)) (c .if1 .taken))
 
-loop-holds : tie.Need-loop-holds Inv-loop μ-loop
-loop-holds c = reading-start (now (c .before .before .args .policy)) (c .if1 .left)
+read-to-stop-requires : tie.Need-read-to-stop-requires
+read-to-stop-requires c κs = search needs
 
-read-record-requires : tie.Need-read-record-requires Inv-loop μ-loop
-read-record-requires c κs = search needs
+at-end-requires : tie.Need-at-end-requires
+at-end-requires c κs =
+    let h = stop-bounds (now (c .before .before .before .before .before .args .policy)) in
+    rw (c .before .before .read-to-stop .ensures) (h .0, h .2)
 
-enum-told : tie.Need-enum-told Inv-loop μ-loop
-enum-told c = search needs
-
-add-labels : tie.Need-add-labels Inv-loop μ-loop
-add-labels c = omega arith
-
-loop-less : tie.Need-loop-less Inv-loop μ-loop
-loop-less c = omega arith
-
-loop-again : tie.Need-loop-again Inv-loop μ-loop
-loop-again c =
-    let l = c .before .before .before .loop in
-    let file = now (c .before .before .before .before .before .before .args .policy) in
-    let r = c .before .before .read-record in
-    let told = c .enum-told .given in
-    reading-label file (l .labels) (l .pairs) (l .inv) (told .0 .0) (kind-of file (l .labels) (l .pairs) (r .result) (r .ensures) ∙ told .1)
-
-enum-told-2 : tie.Need-enum-told-2 Inv-loop μ-loop
-enum-told-2 c = search needs
-
-add-pairs : tie.Need-add-pairs Inv-loop μ-loop
-add-pairs c = omega arith
-
-loop-less-2 : tie.Need-loop-less-2 Inv-loop μ-loop
-loop-less-2 c = omega arith
-
-loop-again-2 : tie.Need-loop-again-2 Inv-loop μ-loop
-loop-again-2 c =
-    let l = c .before .before .before .loop in
-    let file = now (c .before .before .before .before .before .before .args .policy) in
-    let r = c .before .before .read-record in
-    let told = c .enum-told2 .given in
-    reading-over file (l .labels) (l .pairs) (l .inv) (told .0 .0) (kind-of file (l .labels) (l .pairs) (r .result) (r .ensures) ∙ told .1)
-
-enum-told-3 : tie.Need-enum-told-3 Inv-loop μ-loop
-enum-told-3 c = search needs
-
-at-end-requires : tie.Need-at-end-requires Inv-loop μ-loop
-at-end-requires c κs = search needs
-
-returns-2 : tie.Need-returns-2 Inv-loop μ-loop
+returns-2 : tie.Need-returns-2
 returns-2 c =
-    let l = c .before .before .before .before .loop in
-    let file = now (c .before .before .before .before .before .before .before .args .policy) in
-    let r = c .before .before .before .read-record in
-    c .at-end .ensures ∙ sym (reading-end file (l .labels) (l .pairs) (l .inv) (kind-of file (l .labels) (l .pairs) (r .result) (r .ensures) ∙ c .before .enum-told3 .given .1))
+    let file = now (c .before .before .before .before .before .before .args .policy) in
+    let r = c .before .before .before .read-to-stop in
+    c .at-end .ensures
+    ∙ sym (some-bytes file (c .before .before .before .before .if1 .left) (r .result) (r .ensures) ∙ rw (eq-eqb (r .result .refusal) 0 (c .before .if2 .taken)))
 
-enum-known-kind : tie.Need-enum-known-kind Inv-loop μ-loop
-enum-known-kind c = search needs
-
-returns-3 : tie.Need-returns-3 Inv-loop μ-loop
+returns-3 : tie.Need-returns-3
 returns-3 c =
-    let l = c .before .before .before .before .loop in
-    let file = now (c .before .before .before .before .before .before .before .args .policy) in
-    let r = c .before .before .before .read-record in
-    let told = c .before .kind .given in
-    sym (reading-refused file (l .labels) (l .pairs) (l .inv) (told .0 .0) (kind-of file (l .labels) (l .pairs) (r .result) (r .ensures) ∙ told .1))
+    let file = now (c .before .before .before .before .before .args .policy) in
+    let r = c .before .before .read-to-stop in
+    sym (some-bytes file (c .before .before .before .if1 .left) (r .result) (r .ensures) ∙ rw (ne-eqb (r .result .refusal) 0 (c .if2 .left)))
 
 pub read-records-spec : {M : Type 1} → statement M
 read-records-spec =
-    tie.close
-    (tie.spec
-    Inv-loop
-    μ-loop
-    returns
-    loop-holds
-    read-record-requires
-    enum-told
-    add-labels
-    loop-less
-    loop-again
-    enum-told-2
-    add-pairs
-    loop-less-2
-    loop-again-2
-    enum-told-3
-    at-end-requires
-    returns-2
-    enum-known-kind
-    returns-3)
+    tie.close (tie.spec returns read-to-stop-requires at-end-requires returns-2 returns-3)

@@ -1,9 +1,10 @@
 -- `text::plan_text` meets its contract.
-use mathlib.Core.Path.{sym, ap, _∙_}
 use native.Mathlib.Omega.{arith}
 use lib.ListN.{length}
 use Rattle.text.specs.Listing.{planText}
-use Rattle.text.proofs.Answers.{text-length, text-taken, text-written, text-left}
+use Rattle.buffers.proofs.Handed.{front-length, front-handed, front-left}
+use Rattle.text.specs.Answer.{writtenOf, bufferAfter}
+use Rattle.text.proofs.Answers.{text-put}
 use Rattle.text.proofs.Plans.{plan-printable, text-suffices}
 use borrow.Author.Needs.{needs}
 use Rattle.text.proofs.plan_text.Statement.{statement}
@@ -23,6 +24,7 @@ write-text-requires c κs =
     (rw (p .ensures) (plan-printable file), rw (p .ensures) (omega (arith, text-suffices file)))
 
 returns : tie.Need-returns
+unfolding writtenOf bufferAfter
 returns c =
     let h = c .before .before in
     let w = h .before .before .before .before in
@@ -30,22 +32,22 @@ returns c =
     let a = w .before .before .before .before .before .args in
     let file = a .policy .now in
     let out = a .out .now in
-    (h .hand-out .ensures .0 ∙ text-written file p (w .write-text .ensures) out, h .hand-out .ensures .1 ∙ text-left file p (w .write-text .ensures) out)
+    let put = text-put file p (w .write-text .ensures) in
+    (front-handed put (length out) (h .hand-out .ensures .0), front-left put out (h .hand-out .ensures .1))
 
 array-share-prefix-text : tie.Need-array-share-prefix-text
 array-share-prefix-text c =
     let w = c .before in
     let p = w .before .before .plan-policy .ensures in
     let a = w .before .before .before .before .before .args in
-    let l = text-length (a .policy .now) p (w .write-text .ensures) in
-    omega (arith, text-suffices (a .policy .now))
+    omega (arith, text-put (a .policy .now) p (w .write-text .ensures) .behind, text-suffices (a .policy .now))
 
 slice-aggregate-hand-out : tie.Need-slice-aggregate-hand-out
 slice-aggregate-hand-out c =
     let w = c .before .before in
     let p = w .before .before .plan-policy .ensures in
     let a = w .before .before .before .before .before .args in
-    text-length (a .policy .now) p (w .write-text .ensures) ∙ ap length (sym (text-taken (a .policy .now) p (w .write-text .ensures)))
+    front-length (text-put (a .policy .now) p (w .write-text .ensures))
 
 hand-out-requires : tie.Need-hand-out-requires
 hand-out-requires c κs = search needs

@@ -5,10 +5,11 @@ use native.Mathlib.Numerals.{add-one}
 use native.Mathlib.Omega.{arith}
 use lib.ListN.{length}
 use borrow.Author.Needs.{needs}
-use Rattle.text.specs.Listing.{lines}
+use Rattle.text.specs.Listing.{line, lines}
+use Rattle.lists.proofs.Concat.{concat-fit}
+use Rattle.lists.specs.Tables.{concatBelow}
 use Rattle.buffers.specs.Put.{Put}
 use Rattle.buffers.proofs.Writes.{put-next, put-none}
-use Rattle.text.proofs.Parts.{lines-fit}
 use Rattle.text.proofs.put_lines.Statement.{statement}
 use Rattle.text.proofs.put_lines.Tie as tie
 
@@ -19,14 +20,14 @@ abbrev μ-loop : tie.MeasureT-loop
 μ-loop policy plan out₀ labels at₀ m₀ out at m = labels - m
 
 loop-holds : tie.Need-loop-holds Inv-loop μ-loop
-unfolding lines
+unfolding concatBelow
 loop-holds c = (omega arith, refl, put-none (c .before .before .args .out .now))
 
 put-line-requires : tie.Need-put-line-requires Inv-loop μ-loop
 put-line-requires c κs =
     let l = c .before .before .loop in
     let s = c .before .before .before .before .before in
-    let f = lines-fit (s .args .policy .now) (s .args .plan) (s .args .plan .labels) (l .m) (omega arith) in
+    let f = concat-fit (line (s .args .policy .now) (s .args .plan)) (s .args .plan .labels) (l .m) (omega arith) in
     (s .pre .0, omega arith, omega arith)
 
 add-m : tie.Need-add-m Inv-loop μ-loop
@@ -36,7 +37,7 @@ loop-less : tie.Need-loop-less Inv-loop μ-loop
 loop-less c = omega arith
 
 loop-again : tie.Need-loop-again Inv-loop μ-loop
-unfolding lines
+unfolding concatBelow
 loop-again c =
     let p = c .before .before in
     let l = p .before .before .before .loop in

@@ -4,7 +4,7 @@ use lib.Seq.{length-take-le}
 use borrow.Author.Needs.{needs}
 use mathlib.Core.Path.{sym}
 use Rattle.policy.specs.File.{nameOf}
-use Rattle.text.proofs.Names.{unpadded-short, unpadded-taken}
+use Rattle.format.proofs.Padding.{unpadded-short, unpadded-taken}
 use Rattle.text.proofs.put_name.Statement.{statement}
 use Rattle.text.proofs.put_name.Tie as tie
 

@@ -4,7 +4,7 @@ use native.Mathlib.Omega.{arith}
 use borrow.Author.Needs.{needs}
 use Rattle.policy.specs.File.{nameOf}
 use Rattle.weights.specs.Tables.{entries}
-use Rattle.writer.specs.Asks.{secretIn}
+use Rattle.writer.specs.Asks.{secretAt}
 use Rattle.writer.proofs.Hanging.{hung-row, secret-root, secret-made}
 use Rattle.writer.proofs.next_secret.Statement.{statement}
 use Rattle.writer.proofs.next_secret.Tie as tie
@@ -24,7 +24,7 @@ returns-2 c =
     let parent = entries (a .parents .now) in
     c .child-secret .ensures
     ∙ secret-made (nameOf (a .policy .now)) parent (a .root) (a .m) (i .if1 .left) (λ k l. s .pre .0 .falls k (omega arith))
-    (secretIn (a .secrets .now) (parent (a .m))) (n .result) (s .pre .1 (i .if1 .left)) (n .ensures)
+    (secretAt (a .secrets .now) (parent (a .m))) (n .result) (s .pre .1 (i .if1 .left)) (n .ensures)
 
 element-copy-out-parent : tie.Need-element-copy-out-parent
 element-copy-out-parent c = search needs

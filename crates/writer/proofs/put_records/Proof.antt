@@ -12,7 +12,7 @@ use Rattle.order.specs.Table.{atOrBelow}
 use Rattle.policy.specs.File.{nameOf}
 use Rattle.weights.specs.Tables.{entries}
 use Rattle.envelopes.specs.Envelope.{heldRecord, underRecord, recordsBelow}
-use Rattle.writer.specs.Asks.{marked, secretIn, Made}
+use Rattle.writer.specs.Asks.{isMarked, secretAt, Made}
 use Rattle.writer.proofs.Hanging.{hung-row}
 use Rattle.writer.proofs.Parts.{put-as, put-empty}
 use Rattle.writer.proofs.Recorded.{records-more, records-same, records-fit, table-record}
@@ -41,9 +41,9 @@ loop-again c =
     let name = nameOf (a .policy .now) in
     let le = atOrBelow (a .rows .now) in
     let parent = entries (a .parents .now) in
-    let secret = secretIn (d .make-secrets .result) (l .next) in
+    let secret = secretAt (d .make-secrets .result) (l .next) in
     let place = entries (p .places .result) (parent (l .next)) in
-    let one = cond (marked (h .held-labels .result) (l .next)) (heldRecord (name (l .next)) secret) (underRecord (name (l .next)) place) in
+    let one = cond (isMarked (h .held-labels .result) (l .next)) (heldRecord (name (l .next)) secret) (underRecord (name (l .next)) place) in
     let written : Put (l .out) (r .put-record .last .1 .1 .1 .1 .1 .0) (l .end) one (r .put-record .result) = r .put-record .ensures in (
       λ root made.
           let is = table-record le (a .l) (h .held-labels .ensures) made (p .places .ensures) (s .pre .0 .falls) (l .next) (omega arith) (i .if1 .taken) in

@@ -1,0 +1,35 @@
+-- The first 4,096 bytes of a file decide what the programs answer, shown for all lists of bytes.
+use Prim.Native.Nat.{ℕ}
+use mathlib.Core.List.{List}
+use mathlib.Core.Path.{sym, _∙_}
+use native.Mathlib.Omega.{arith}
+use Rattle.desk.proofs.Front.{derived-front, labels-front, records-front}
+use Rattle.dot.proofs.Front.{dot-front}
+use Rattle.issuer.proofs.Front.{key-front, issued-front, buffer-front, key-root-front, issued-root-front, buffer-root-front}
+use Rattle.planner.proofs.Front.{weigh-front, weigh-tree-front}
+use Rattle.policy.proofs.Front.{front-answers, front-records}
+use Rattle.text.proofs.Front.{text-front}
+use Rattle.claims.specs.Programs.{front, OfPlans, OfLicence, OfDesk}
+
+pub plans-from-front : (policy : List ℕ) → OfPlans policy
+plans-from-front policy = record {
+  text = sym (text-front 4096 (omega arith) policy);
+  drawing = sym (dot-front 4096 (omega arith) policy);
+}
+
+pub licence-from-front : (policy tree name root : List ℕ) (account : ℕ) (out : List ℕ) (room : ℕ) → OfLicence policy tree name root account out room
+licence-from-front policy tree name root account out room = record {
+  weighed = sym (weigh-front 4096 (omega arith) policy tree ∙ weigh-tree-front 4096 (omega arith) (front policy) tree);
+  key = sym (key-front 4096 (omega arith) policy name root ∙ key-root-front 4096 (omega arith) (front policy) name root);
+  issued = sym (issued-front 4096 (omega arith) policy name account root room ∙ issued-root-front 4096 (omega arith) (front policy) name root account room);
+  written = sym (buffer-front 4096 (omega arith) policy name account root out ∙ buffer-root-front 4096 (omega arith) (front policy) name root account out);
+  read = sym (front-answers 4096 (omega arith) policy);
+  refused-at = sym (front-records 4096 (omega arith) policy);
+}
+
+pub desk-from-front : (envelope name : List ℕ) → OfDesk envelope name
+desk-from-front envelope name = record {
+  derived = sym (derived-front 4096 (omega arith) envelope name);
+  labels = sym (labels-front 4096 (omega arith) envelope);
+  refused-at = sym (records-front 4096 (omega arith) envelope);
+}

@@ -1,0 +1,4 @@
+pub mod Padding
+pub mod Numbers
+pub mod Hexadecimal
+pub mod Temporary

@@ -1,0 +1,28 @@
+// The desk's operations for C callers, each by the equation of the operation itself. A slice is passed as a pointer and a length.
+use desk::Derived;
+use desk::Labels;
+ghost use mathlib.Core.Path.{_≡_};
+ghost use Rattle.desk.specs.Derive.{derivedOf};
+ghost use Rattle.desk.specs.Labels.{labelsOf};
+ghost use Rattle.desk.specs.Whole.{recordsRead};
+
+#[no_mangle]
+pub extern "C" fn yendlowa_derive(envelope: &[u8], name: &[u8]) -> Derived
+    ensures { λ r. ⌜ r ≡ derivedOf (now (envelope .entry)) (now (name .entry)) ⌝ }
+{
+    desk::derive(envelope, name)
+}
+
+#[no_mangle]
+pub extern "C" fn yendlowa_labels(envelope: &[u8]) -> Labels
+    ensures { λ r. ⌜ r ≡ labelsOf (now (envelope .entry)) ⌝ }
+{
+    desk::read_labels(envelope)
+}
+
+#[no_mangle]
+pub extern "C" fn yendlowa_envelope_records(envelope: &[u8]) -> usize
+    ensures { λ r. ⌜ r ≡ recordsRead (now (envelope .entry)) ⌝ }
+{
+    desk::records_read(envelope)
+}

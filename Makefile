@@ -1,47 +1,86 @@
-# make test    everything that the gate asks: the proofs, the must-fail edits, the programs, the comparisons
-# make bench   the compiled code beside C, OpenSSL and Rust, as ratios
-# make compare the second implementation alone, with SEED=n
+# make lib       the libraries for C, in build/lib, and their headers, in build/include
+# make programs  the programs, in build/bin
+# make install   all of these in bin, lib and include under PREFIX, and under DESTDIR where it is given
+# make uninstall takes them away again
+# make test      everything that the gate asks: the proofs, the must-fail edits, the programs, the comparisons
+# make compare   the second implementation alone, with SEED=n and COUNT=n cases at random
+# make fuzz      cases at random with fresh seeds, for SECONDS=n
+# make bench     every operation beside plain Rust, C and OpenSSL; GROWTH=1: how cost grows with labels and pairs
 
 SHELL := /bin/bash
 CC ?= gcc
 RUSTC ?= rustc
 SEED ?= 1
+COUNT ?= 100000
+SECONDS ?= 60
+PREFIX ?= /usr/local
+INTO := $(DESTDIR)$(PREFIX)
 
-EXPORTS := target/staticlib/libexports.a
+LIBRARIES := build/lib/libyendlowa-issuer.a build/lib/libyendlowa-desk.a
+HEADERS := $(patsubst include/%,build/include/%,$(wildcard include/*.h))
+PROGRAMS := $(addprefix build/bin/,plan plan_dot licence desk)
 COMPARE := build/compare
 BENCH := build/bench
-BENCH_RUST := build/bench-rust
-OPENSSL := $(shell echo '\#include <openssl/evp.h>' | $(CC) -E - >/dev/null 2>&1 && echo '-DWITH_OPENSSL -lcrypto')
+OPENSSL := $(shell echo '\#include <openssl/evp.h>' | $(CC) -E - >/dev/null 2>&1 && echo '--cfg openssl -l crypto')
+LINKED := -L build/lib -l static=yendlowa-issuer -l static=yendlowa-desk
 
-.PHONY: test compare bench clean FORCE
+# What rt builds from: folders too, so that a file taken away counts.
+SOURCES := crates.txt $(shell find crates -name must-fail -prune -o -print)
+# The crate of a program, from the program's name.
+crate = $(if $(filter desk,$1),desk_program,$1)
+
+.PHONY: lib programs install uninstall test compare fuzz bench clean
+.NOTPARALLEL:
+
+lib: $(LIBRARIES) $(HEADERS)
+
+programs: $(PROGRAMS)
+
+install: lib programs
+	install -d $(INTO)/bin $(INTO)/lib $(INTO)/include
+	install -m 755 $(PROGRAMS) $(INTO)/bin
+	install -m 644 $(LIBRARIES) $(INTO)/lib
+	install -m 644 $(HEADERS) $(INTO)/include
+
+uninstall:
+	rm -f $(patsubst build/%,$(INTO)/%,$(PROGRAMS) $(LIBRARIES) $(HEADERS))
 
 test:
 	@tests/run
 
 compare: $(COMPARE)
-	@$(COMPARE) $(SEED)
+	@$(COMPARE) $(SEED) $(COUNT) groups
 
-bench: $(BENCH) $(BENCH_RUST)
-	@$(BENCH)
-	@$(BENCH_RUST)
+fuzz: $(COMPARE)
+	@$(COMPARE) fuzz $(SECONDS)
 
-# rt decides itself what has to be proved again.
-$(EXPORTS): FORCE
-	@rt staticlib exports >build/staticlib.log 2>&1 || { cat build/staticlib.log; exit 1; }
+bench: $(BENCH)
+	@$(BENCH) $(if $(GROWTH),growth)
 
-$(COMPARE): $(EXPORTS) $(wildcard tests/compare/*.rs)
-	@$(RUSTC) --edition 2021 -O -L target/staticlib -l static=exports tests/compare/main.rs -o $@
+$(LIBRARIES): build/lib/libyendlowa-%.a: $(SOURCES) | build/lib
+	@echo "proving and building $@"
+	@rt staticlib $*_c >build/rt.log 2>&1 || { cat build/rt.log; exit 1; }
+	@cp target/staticlib/lib$*_c.a $@
 
-$(BENCH): $(EXPORTS) $(wildcard tests/bench/*.[ch])
-	@$(CC) -O3 -Wall -Wextra tests/bench/bench.c tests/bench/sha256.c $(EXPORTS) $(OPENSSL) -Wno-deprecated-declarations -o $@
+$(PROGRAMS): build/bin/%: $(SOURCES) | build/bin
+	@echo "proving and building $@"
+	@rt check $(call crate,$*) >build/rt.log 2>&1 || { cat build/rt.log; exit 1; }
+	@cp target/bin/$(call crate,$*) $@
 
-$(BENCH_RUST): $(EXPORTS) $(wildcard tests/bench/*.rs tests/compare/*.rs)
-	@$(RUSTC) --edition 2021 -C opt-level=3 -L target/staticlib -l static=exports tests/bench/bench.rs -o $@
+$(HEADERS): build/include/%: include/% | build/include
+	@cp $< $@
 
-$(EXPORTS) $(COMPARE) $(BENCH) $(BENCH_RUST): | build
+$(COMPARE): $(LIBRARIES) $(wildcard tests/compare/*.rs)
+	@$(RUSTC) --edition 2021 -O $(LINKED) tests/compare/main.rs -o $@
 
-build:
-	@mkdir -p build
+$(BENCH): $(LIBRARIES) build/sha256.o $(wildcard tests/bench/*.rs tests/compare/*.rs)
+	@$(RUSTC) --edition 2021 -C opt-level=3 $(LINKED) -C link-arg=build/sha256.o $(OPENSSL) tests/bench/bench.rs -o $@
+
+build/sha256.o: tests/bench/sha256.c | build/lib
+	@$(CC) -O3 -Wall -Wextra -c $< -o $@
+
+build/lib build/include build/bin:
+	@mkdir -p $@
 
 clean:
 	rm -rf build target

@@ -5,8 +5,10 @@ stored input and output come from here.
 python3 tests/plans.py policy CASE    the bytes of the policy file
 python3 tests/plans.py text CASE      the bytes of the text
 
-CASE is E (document 01's example), refused (E without its last two pairs) or full (64 labels, 512 pairs).
+CASE is E (document 01's example), refused (E without its last two pairs), full (64 labels, 512 pairs) or the path of a
+policy file.
 """
+import pathlib
 import sys
 
 E_LABELS = [("SUITE", 2), ("CURVES", 3), ("CONV32", 5), ("ACCRUED", 4)]
@@ -138,9 +140,9 @@ def text(file):
 
 
 def main():
-    if len(sys.argv) != 3 or sys.argv[1] not in ("policy", "text") or sys.argv[2] not in CASES:
+    if len(sys.argv) != 3 or sys.argv[1] not in ("policy", "text"):
         raise SystemExit(__doc__.strip())
-    file = CASES[sys.argv[2]]()
+    file = CASES[sys.argv[2]]() if sys.argv[2] in CASES else pathlib.Path(sys.argv[2]).read_bytes()
     made = text(file)
     if GIVEN.get(sys.argv[2], made) != made:
         raise SystemExit(f"{sys.argv[2]}: {made} is not what document 01 gives")

@@ -1,6 +1,10 @@
-//! Our compiled plan, weighing, issuing and deriving beside plain Rust programs for the same jobs, each from
-//! the file's bytes to the answer: both in one run, round after round in turn, the median round, as a ratio of
-//! times. A ratio below 1 says that ours is the faster.
+//! Every operation of the compiled library beside a plain Rust program for the same job, SHA-256 and HMAC beside C
+//! and OpenSSL too, each from the input's bytes to the answer. All of a row run in turn, round after round; a time
+//! is that of the median round, and the ratio the median of the rounds' ratios. A ratio below 1 says that ours is
+//! the faster.
+//!
+//! bench          one table of all operations
+//! bench growth   how the cost of some grows with labels and pairs
 
 use std::hint::black_box;
 use std::time::Instant;
@@ -10,126 +14,114 @@ mod hash;
 #[allow(dead_code)]
 #[path = "../compare/library.rs"]
 mod library;
+mod ours;
 mod plan;
 #[allow(dead_code)]
 #[path = "../compare/policy.rs"]
 mod policy;
+mod policies;
+mod yardsticks;
 
-/// The proved library.
-mod ours {
-    use crate::library::*;
-
-    pub fn plan(policy: &[u8]) -> Plan {
-        unsafe { yendlowa_plan(policy.as_ptr(), policy.len()) }
-    }
-
-    pub fn weigh(policy: &[u8], tree: &[u8]) -> Weighed {
-        unsafe { yendlowa_weigh(policy.as_ptr(), policy.len(), tree.as_ptr(), tree.len()) }
-    }
-
-    pub fn issue(policy: &[u8], name: &[u8], account: u32, root: &[u8], envelope: &mut [u8]) -> Issued {
-        let (policy, length) = (policy.as_ptr(), policy.len());
-        let (name, name_length, root, root_length) = (name.as_ptr(), name.len(), root.as_ptr(), root.len());
-        let (into, room) = (envelope.as_mut_ptr(), envelope.len());
-        unsafe { yendlowa_issue(policy, length, name, name_length, account, root, root_length, into, room) }
-    }
-
-    pub fn derive(envelope: &[u8], name: &[u8]) -> Derived {
-        unsafe { yendlowa_derive(envelope.as_ptr(), envelope.len(), name.as_ptr(), name.len()) }
-    }
-}
-
-/// 64 labels, each under eight or nine of the 24 before it, and a tree that hangs each from one of these.
-fn full() -> (Vec<u8>, Vec<u8>) {
-    let mut state = 1u64;
-    let mut below = |bound: usize| {
-        state = state.wrapping_mul(6_364_136_223_846_793_005).wrapping_add(1_442_695_040_888_963_407);
-        (state >> 33) as usize % bound
-    };
-    let (mut labels, mut pairs, mut tree) = (Vec::new(), Vec::new(), b"TR\0".to_vec());
-    for label in 0..64 {
-        labels.extend_from_slice(format!("LBMODULE{label:02}").as_bytes());
-        labels.extend_from_slice(&(below(65_536) as u16).to_be_bytes());
-        let mut uppers = Vec::new();
-        while uppers.len() < label.min(8 + (label >= 28) as usize) {
-            let upper = (label - 1 - below(label.min(24))) as u8;
-            if !uppers.contains(&upper) {
-                uppers.push(upper);
-                pairs.extend_from_slice(&[b'O', b'V', upper, label as u8]);
-            }
-        }
-        tree.extend(uppers.first());
-    }
-    assert_eq!(pairs.len(), 4 * 512);
-    ([labels, pairs].concat(), tree)
-}
-
-/// 64 labels with 65,535 accounts each, and those pairs.
-fn numbered(pairs: impl Iterator<Item = (u8, u8)>) -> Vec<u8> {
-    let label = |label: u8| [format!("LBLABEL{label:02} ").as_bytes(), &[255; 2]].concat();
-    let pairs = pairs.flat_map(|(upper, lower)| [b'O', b'V', upper, lower]);
-    (0..64).flat_map(label).chain(pairs).collect()
-}
-
-/// 9 labels below the top and 54 below each of these. In the plan the 54 hang from label 1, so that each of the
-/// other 8 holds 54 secrets beside its own.
-fn two_layers() -> Vec<u8> {
-    let middle = (1..10).map(|middle| (0, middle));
-    numbered(middle.chain((10..64).flat_map(|lower| (1..10).map(move |middle| (middle, lower)))))
-}
-
-/// A chain of 33 labels, one label beside it, and 30 below both ends. In the plan the 30 hang from the chain's
-/// end, so that the label beside it holds their secrets.
-fn deep() -> Vec<u8> {
-    let chain = (1..33).map(|lower| (lower - 1, lower));
-    let lowest = (34..64).flat_map(|lower| [(32, lower), (33, lower)]);
-    numbered(chain.chain([(0, 33)]).chain(lowest))
-}
+use policies::{chain, deep, full, growing, two_layers};
 
 const ROUNDS: usize = 61;
-const CALLS: usize = 200;
 
-/// The time of one call in nanoseconds, over a round of calls.
-fn timed<T>(run: &mut impl FnMut() -> T) -> f64 {
+/// About how long a round of calls of one version takes, in nanoseconds.
+const ROUND: f64 = 2e6;
+
+type Version<'a, T> = Box<dyn FnMut() -> T + 'a>;
+
+/// The time of one call in nanoseconds, over so many calls.
+fn timed<T>(run: &mut Version<T>, calls: usize) -> f64 {
     let start = Instant::now();
-    for _ in 0..CALLS {
+    for _ in 0..calls {
         black_box(run());
     }
-    start.elapsed().as_nanos() as f64 / CALLS as f64
+    start.elapsed().as_nanos() as f64 / calls as f64
 }
 
-fn median(mut list: Vec<f64>) -> f64 {
+fn median(list: impl Iterator<Item = f64>) -> f64 {
+    let mut list: Vec<f64> = list.collect();
     list.sort_by(f64::total_cmp);
     list[list.len() / 2]
 }
 
-/// Times both in turn, the first round left out as warming up.
-fn compare<T: PartialEq + std::fmt::Debug>(
-    what: &str,
-    mut ours: impl FnMut() -> T,
-    mut plain: impl FnMut() -> T,
-) {
-    assert_eq!(ours(), plain(), "{what}: ours and Rust differ");
-    let rounds = (0..=ROUNDS).map(|_| (timed(&mut ours), timed(&mut plain)));
-    let rounds: Vec<(f64, f64)> = rounds.skip(1).collect();
-    let our_time = median(rounds.iter().map(|round| round.0).collect());
-    let plain_time = median(rounds.iter().map(|round| round.1).collect());
-    let ratio = median(rounds.iter().map(|round| round.0 / round.1).collect());
-    println!("{what}");
-    println!("  ours       {:9.2} us a call", our_time / 1000.0);
-    println!("  Rust, -O3  {:9.2} us a call   ours takes {ratio:.2} of its time", plain_time / 1000.0);
+/// The microseconds that a call of each version takes, and the first's time as a part of the second's. All have to
+/// give the same.
+fn measure<T: PartialEq + std::fmt::Debug>(what: &str, versions: &mut [Version<T>]) -> (Vec<f64>, f64) {
+    let answer = versions[0]();
+    for version in &mut *versions {
+        assert_eq!(version(), answer, "{what}: the answers differ");
+    }
+    let one = timed(&mut versions[1], 20);
+    let calls = (ROUND / one).ceil() as usize;
+    let mut round = || versions.iter_mut().map(|version| timed(version, calls)).collect::<Vec<f64>>();
+    let rounds: Vec<Vec<f64>> = (0..=ROUNDS).map(|_| round()).skip(1).collect();
+    let times = (0..rounds[0].len()).map(|v| median(rounds.iter().map(|round| round[v])) / 1000.0);
+    (times.collect(), median(rounds.iter().map(|round| round[0] / round[1])))
+}
+
+/// Measures the versions (ours, Rust, and where there are any C and OpenSSL) and prints the row.
+fn row<T: PartialEq + std::fmt::Debug>(what: &str, mut versions: Vec<Version<T>>) {
+    let (times, ratio) = measure(what, &mut versions);
+    let time = |version: usize| times.get(version).map_or("-".to_string(), |time| format!("{time:.2}"));
+    println!("{}", line(what, [time(0), time(1), format!("{ratio:.2}"), time(2), time(3)]));
+}
+
+/// A line of the table.
+fn line(what: &str, [ours, rust, ratio, c, openssl]: [String; 5]) -> String {
+    format!("{what:<46}{ours:>9}{rust:>9}{ratio:>11}{c:>9}{openssl:>9}")
+}
+
+fn two<'a, T>(ours: impl FnMut() -> T + 'a, plain: impl FnMut() -> T + 'a) -> Vec<Version<'a, T>> {
+    vec![Box::new(ours), Box::new(plain)]
 }
 
 const ROOT: [u8; 32] = *b"0123456789ABCDEF0123456789ABCDEF";
 
-/// Compares the issuing of an envelope with so many secrets for the first account at a label.
-fn compare_issue(what: &str, policy: &[u8], name: &[u8], secrets: usize) {
+fn hash_rows() {
+    let bytes: Vec<u8> = (0..65_536).map(|i| (i * 7 + i / 251) as u8).collect();
+    for length in [65_536, 64] {
+        let message = black_box(&bytes[..length]);
+        let mut versions = two(|| ours::sha256(message), || hash::sha256(message));
+        versions.extend(yardsticks::sha256(message));
+        row(&format!("sha256, {length} bytes"), versions);
+    }
+    let (key, message) = (black_box(&ROOT), black_box(&b"MODULE00"[..]));
+    let mut versions = two(|| ours::hmac_sha256(key, message), || hash::hmac_sha256(key, message));
+    versions.extend(yardsticks::hmac_sha256(key, message));
+    row("hmac_sha256, 32-byte key, 8 bytes", versions);
+}
+
+fn policy_rows() {
+    let (full, tree) = full();
+    let (policy, tree) = (black_box(&full[..]), black_box(&tree[..]));
+    row("read_policy, 64 labels and 512 pairs", two(|| ours::read_policy(policy), || plan::read_policy(policy)));
+    let records = two(|| ours::policy_records(policy), || policy::records_read(policy));
+    row("policy_records, the same", records);
+    row("order, the same", two(|| ours::order(policy), || plan::order_rows(policy)));
+    row("plan, the same", two(|| ours::plan(policy), || plan::plan(policy)));
+    row("weigh, the same", two(|| ours::weigh(policy, tree), || plan::weigh(policy, tree)));
+    written("plan_text, the same", policy, ours::plan_text, plan::plan_text);
+    written("plan_dot, the same", policy, ours::plan_dot, plan::plan_dot);
+}
+
+type Writer = fn(&[u8], &mut [u8]) -> library::Written;
+
+fn written(what: &str, policy: &[u8], ours: Writer, plain: Writer) {
+    let (mut our_buffer, mut buffer) = ([0; 8192], [0; 8192]);
+    row(what, two(|| ours(policy, &mut our_buffer), || plain(policy, &mut buffer)));
+    assert_eq!(our_buffer, buffer, "{what}: the buffers differ");
+}
+
+/// The issuing of an envelope with so many secrets for the first account at a label.
+fn issue_row(what: &str, policy: &[u8], name: &[u8], secrets: usize) {
     let (mut our_buffer, mut buffer) = ([0; 2700], [0; 2700]);
-    let our_issue = || ours::issue(black_box(policy), black_box(name), 1, black_box(&ROOT), &mut our_buffer);
-    let issue = || envelope::issue(black_box(policy), black_box(name), 1, black_box(&ROOT), &mut buffer);
-    compare(what, our_issue, issue);
-    assert_eq!(our_buffer, buffer, "{what}: ours and Rust differ");
-    assert_eq!(envelope::secrets(&buffer[..issued(policy, name).len()]), secrets);
+    let (policy, name, root) = (black_box(policy), black_box(name), black_box(&ROOT));
+    let ours = || ours::issue(policy, name, 1, root, &mut our_buffer);
+    row(what, two(ours, || envelope::issue(policy, name, 1, root, &mut buffer)));
+    assert_eq!(our_buffer, buffer, "{what}: the buffers differ");
+    assert_eq!(envelope::secrets(&issued(policy, name)), secrets);
 }
 
 fn issued(policy: &[u8], name: &[u8]) -> Vec<u8> {
@@ -138,23 +130,69 @@ fn issued(policy: &[u8], name: &[u8]) -> Vec<u8> {
     buffer[..length].to_vec()
 }
 
-fn compare_derive(what: &str, envelope: &[u8], name: &[u8], applications: u8) {
+fn issuer_rows() {
+    let (full, _) = full();
+    let (policy, root) = (black_box(&full[..]), black_box(&ROOT));
+    let name = black_box(&b"MODULE63"[..]);
+    let key = two(|| ours::issuer_key(policy, name, root), || envelope::issuer_key(policy, name, root));
+    row("issuer_key, the same, the last label", key);
+    issue_row("issue, the same, to the top", policy, b"MODULE00", 1);
+    issue_row("issue, 55 secrets, two steps from the root", &two_layers(), b"LABEL02 ", 55);
+    issue_row("issue, 31 secrets, 33 steps from the root", &deep(), b"LABEL33 ", 31);
+}
+
+fn derive_row(what: &str, envelope: &[u8], name: &[u8], applications: u8) {
     assert_eq!(envelope::derive(envelope, name).applications, applications);
-    let our_derive = || ours::derive(black_box(envelope), black_box(name));
-    compare(what, our_derive, || envelope::derive(black_box(envelope), black_box(name)));
+    let (envelope, name) = (black_box(envelope), black_box(name));
+    row(what, two(|| ours::derive(envelope, name), || envelope::derive(envelope, name)));
+}
+
+fn desk_rows() {
+    let top = issued(&chain(), b"LABEL00 ");
+    derive_row("derive, 64 records, 64 applications", &top, b"LABEL63 ", 64);
+    derive_row("derive, 64 records, 1 application", &top, b"LABEL00 ", 1);
+    let envelope = black_box(&top[..]);
+    row("labels, 64 records", two(|| ours::labels(envelope), || envelope::labels(envelope)));
+    let records = two(|| ours::envelope_records(envelope), || envelope::envelope_records(envelope));
+    row("envelope_records, 64 records", records);
+}
+
+/// A measured cell of the second table: ours in microseconds, and the ratio.
+fn cell<T: PartialEq + std::fmt::Debug>(mut versions: Vec<Version<T>>) -> String {
+    let (times, ratio) = measure("growth", &mut versions);
+    format!("{:>9.2} ({ratio:.2})", times[0])
+}
+
+/// Couples of labels stand one strictly above the other; the issue is to the top.
+fn growth() {
+    println!("microseconds a call of ours, and in brackets ours/Rust");
+    let heads = ["read_policy", "plan", "weigh", "issue"];
+    println!("labels pairs couples{}", heads.map(|head| format!("{head:>16}")).concat());
+    for (labels, pairs) in [(8, 64), (16, 64), (32, 64), (64, 64), (64, 128), (64, 256), (64, 512)] {
+        let (policy, tree) = growing(labels, pairs);
+        let (policy, tree, root) = (black_box(&policy[..]), black_box(&tree[..]), black_box(&ROOT));
+        let (mut our_buffer, mut buffer, name) = ([0; 2700], [0; 2700], black_box(b"MODULE00"));
+        let ours = || ours::issue(policy, name, 1, root, &mut our_buffer);
+        let issue = two(ours, || envelope::issue(policy, name, 1, root, &mut buffer));
+        let cells = [
+            cell(two(|| ours::read_policy(policy), || plan::read_policy(policy))),
+            cell(two(|| ours::plan(policy), || plan::plan(policy))),
+            cell(two(|| ours::weigh(policy, tree), || plan::weigh(policy, tree))),
+            cell(issue),
+        ];
+        let entries = ours::order(policy).rows.iter().flatten().filter(|entry| **entry).count();
+        println!("{labels:>6}{pairs:>6}{:>8}{}", entries - labels, cells.concat());
+    }
 }
 
 fn main() {
-    let (policy, tree) = full();
-    let (our_plan, plan) = (|| ours::plan(black_box(&policy)), || plan::plan(black_box(&policy)));
-    compare("Plan, 64 labels and 512 pairs", our_plan, plan);
-    let our_weigh = || ours::weigh(black_box(&policy), black_box(&tree));
-    let weigh = || plan::weigh(black_box(&policy), black_box(&tree));
-    compare("Weighing of a tree, 64 labels and 512 pairs", our_weigh, weigh);
-    compare_issue("Issuing to the top, 64 labels and 512 pairs", &policy, b"MODULE00", 1);
-    compare_issue("Issuing 55 secrets, two steps from the root", &two_layers(), b"LABEL02 ", 55);
-    compare_issue("Issuing 31 secrets, 33 steps from the root", &deep(), b"LABEL33 ", 31);
-    let top = issued(&numbered((1..64).map(|lower| (lower - 1, lower))), b"LABEL00 ");
-    compare_derive("Deriving from 64 records with 64 applications", &top, b"LABEL63 ", 64);
-    compare_derive("Deriving from 64 records with 1 application", &top, b"LABEL00 ", 1);
+    if std::env::args().nth(1).as_deref() == Some("growth") {
+        return growth();
+    }
+    let heads = ["ours", "Rust", "ours/Rust", "C", "OpenSSL"];
+    println!("{}", line("microseconds a call", heads.map(String::from)));
+    hash_rows();
+    policy_rows();
+    issuer_rows();
+    desk_rows();
 }

@@ -1,8 +1,8 @@
-//! Issuing and deriving in plain Rust, from the file's bytes to the answer. Secrets are made by recursion up
-//! the tree, each once; nothing is allocated but the policy reader's lists.
+//! Keys, issuing, envelopes' labels and deriving in plain Rust, from the file's bytes to the answer. Secrets are
+//! made by recursion up the tree, each once; nothing is allocated but the policy reader's lists.
 
 use crate::hash::mac;
-use crate::library::{Derived, Issued};
+use crate::library::{Derived, Issued, IssuerKey, Labels};
 use crate::plan::{self, Policy, Rows};
 
 /// A policy with its order and the plan's parents.
@@ -35,6 +35,10 @@ impl Issuer {
         let secret = mac(&self.secret(known, self.parents[label] as usize), &self.policy.names[label]);
         known[label] = Some(secret);
         secret
+    }
+
+    fn label(&self, name: &[u8]) -> Result<usize, u8> {
+        self.policy.names.iter().position(|other| other == name).ok_or(13)
     }
 
     fn length(&self, label: usize) -> usize {
@@ -70,7 +74,7 @@ impl Issuer {
 
 fn issued(file: &[u8], name: &[u8], account: u32, root: &[u8], envelope: &mut [u8]) -> Result<usize, u8> {
     let issuer = Issuer::new(file)?;
-    let label = issuer.policy.names.iter().position(|other| other == name).ok_or(13)?;
+    let label = issuer.label(name)?;
     if account == 0 || account > issuer.policy.counts[label] {
         return Err(14);
     }
@@ -90,6 +94,21 @@ pub fn issue(file: &[u8], name: &[u8], account: u32, root: &[u8], envelope: &mut
     match issued(file, name, account, root, envelope) {
         Ok(length) => Issued { refusal: 0, length },
         Err(refusal) => Issued { refusal, length: 0 },
+    }
+}
+
+fn key(file: &[u8], name: &[u8], root: &[u8]) -> Result<[u8; 32], u8> {
+    let issuer = Issuer::new(file)?;
+    let label = issuer.label(name)?;
+    let mut known = [None; 64];
+    known[0] = Some(root.try_into().map_err(|_| 15)?);
+    Ok(mac(&issuer.secret(&mut known, label), &issuer.policy.names[label]))
+}
+
+pub fn issuer_key(file: &[u8], name: &[u8], root: &[u8]) -> IssuerKey {
+    match key(file, name, root) {
+        Ok(key) => IssuerKey { refusal: 0, key },
+        Err(refusal) => IssuerKey { refusal, key: [0; 32] },
     }
 }
 
@@ -137,15 +156,25 @@ impl<'a> Records<'a> {
         Ok(&bytes[length..])
     }
 
-    fn read(file: &'a [u8]) -> Result<Records<'a>, u8> {
-        if file.len() < 12 || !file.starts_with(b"EN") || file[2..4] == [0, 0] {
-            return Err(17);
-        }
+    /// Reads the header and the records up to the end or the first refused one, whose number stands beside them.
+    fn begin(file: &'a [u8]) -> (Records<'a>, Result<(), u8>) {
         let mut records = Records { count: 0, names: [[0; 8]; 64], sources: [&[]; 64] };
+        if file.len() < 12 || !file.starts_with(b"EN") || file[2..4] == [0, 0] {
+            return (records, Err(17));
+        }
         let mut rest = &file[12..];
         while !rest.is_empty() {
-            rest = records.add(&file[4..12], rest)?;
+            match records.add(&file[4..12], rest) {
+                Ok(after) => rest = after,
+                Err(number) => return (records, Err(number)),
+            }
         }
+        (records, Ok(()))
+    }
+
+    fn read(file: &'a [u8]) -> Result<Records<'a>, u8> {
+        let (records, end) = Records::begin(file);
+        end?;
         if records.count == 0 {
             return Err(18);
         }
@@ -176,6 +205,23 @@ pub fn derive(envelope: &[u8], name: &[u8]) -> Derived {
         Ok((key, applications)) => Derived { refusal: 0, key, applications },
         Err(refusal) => Derived { refusal, key: [0; 32], applications: 0 },
     }
+}
+
+pub fn labels(envelope: &[u8]) -> Labels {
+    let mut answer = Labels { refusal: 0, account: 0, labels: 0, names: [0; 512] };
+    match Records::read(envelope) {
+        Ok(records) => {
+            answer.account = u16::from_be_bytes([envelope[2], envelope[3]]);
+            answer.labels = records.count;
+            answer.names[..8 * records.count].copy_from_slice(records.names[..records.count].as_flattened());
+        }
+        Err(refusal) => answer.refusal = refusal,
+    }
+    answer
+}
+
+pub fn envelope_records(envelope: &[u8]) -> usize {
+    Records::begin(envelope).0.count
 }
 
 /// How many secrets an envelope holds.

@@ -1,5 +1,7 @@
-//! SHA-256's compression and HMAC of a 32-byte key and an 8-byte message in plain Rust: constant tables, eight
-//! rounds a turn, and nothing allocated.
+//! SHA-256 and HMAC in plain Rust, and HMAC of a 32-byte key and an 8-byte message by itself: constant tables,
+//! eight rounds a turn, and nothing allocated.
+
+use crate::library::Digest;
 
 const K: [u32; 64] = [
     0x428a2f98, 0x71374491, 0xb5c0fbcf, 0xe9b5dba5, 0x3956c25b, 0x59f111f1, 0x923f82a4, 0xab1c5ed5,
@@ -55,6 +57,59 @@ fn word(bytes: &[u8]) -> u32 {
     u32::from_be_bytes([bytes[0], bytes[1], bytes[2], bytes[3]])
 }
 
+fn compress_bytes(state: &mut [u32; 8], block: &[u8]) {
+    compress(state, &std::array::from_fn(|t| word(&block[4 * t..])));
+}
+
+fn digest(state: [u32; 8]) -> [u8; 32] {
+    let mut digest = [0; 32];
+    for (bytes, word) in digest.chunks_exact_mut(4).zip(state) {
+        bytes.copy_from_slice(&word.to_be_bytes());
+    }
+    digest
+}
+
+/// The digest of so many bytes that the state has taken in, a multiple of 64, and of the message.
+fn finish(mut state: [u32; 8], before: usize, message: &[u8]) -> [u8; 32] {
+    let blocks = message.chunks_exact(64);
+    let rest = blocks.remainder();
+    blocks.for_each(|block| compress_bytes(&mut state, block));
+    let mut last = [0; 128];
+    last[..rest.len()].copy_from_slice(rest);
+    last[rest.len()] = 0x80;
+    let end = if rest.len() < 56 { 64 } else { 128 };
+    last[end - 8..end].copy_from_slice(&(8 * (before + message.len()) as u64).to_be_bytes());
+    last[..end].chunks_exact(64).for_each(|block| compress_bytes(&mut state, block));
+    digest(state)
+}
+
+const LIMIT: usize = 65_536;
+
+pub fn sha256(message: &[u8]) -> Digest {
+    if message.len() > LIMIT {
+        return Digest { refusal: 21, bytes: [0; 32] };
+    }
+    Digest { refusal: 0, bytes: finish(START, 0, message) }
+}
+
+pub fn hmac_sha256(key: &[u8], message: &[u8]) -> Digest {
+    if key.len().max(message.len()) > LIMIT {
+        return Digest { refusal: 21, bytes: [0; 32] };
+    }
+    let mut block = [0; 64];
+    match key.len() {
+        0..=64 => block[..key.len()].copy_from_slice(key),
+        _ => block[..32].copy_from_slice(&finish(START, 0, key)),
+    }
+    let padded = |pad: u8| {
+        let mut state = START;
+        compress_bytes(&mut state, &block.map(|byte| byte ^ pad));
+        state
+    };
+    let inner = finish(padded(0x36), 64, message);
+    Digest { refusal: 0, bytes: finish(padded(0x5c), 64, &inner) }
+}
+
 /// The state after the padded key's block, and then after a last block: a message's words, the end bit, and the
 /// length in bits of the whole.
 fn keyed(key: &[u32; 8], pad: u32, message: &[u32]) -> [u32; 8] {
@@ -79,9 +134,5 @@ pub fn mac(secret: &[u8; 32], name: &[u8; 8]) -> [u8; 32] {
         *of_key = word(bytes);
     }
     let inner = keyed(&key, 0x3636_3636, &[word(&name[..4]), word(&name[4..])]);
-    let mut digest = [0; 32];
-    for (bytes, word) in digest.chunks_exact_mut(4).zip(keyed(&key, 0x5c5c_5c5c, &inner)) {
-        bytes.copy_from_slice(&word.to_be_bytes());
-    }
-    digest
+    digest(keyed(&key, 0x5c5c_5c5c, &inner))
 }

@@ -1,11 +1,12 @@
-//! The plan and the weighing of a tree in plain Rust. The policy is read and checked as the comparison's second
-//! implementation does it, and the order built as a table of 64 rows of 64 entries closed under chains. The
-//! weight of every label strictly above each label is summed from the two rows, and the least taken. There are
-//! no bit sets, and the reader's lists alone are allocated; the loops over rows have no branch inside, so that
-//! they compile to vector instructions.
+//! Policies, the plan, its text and drawing, and the weighing of a tree in plain Rust. The policy is read and
+//! checked as the comparison's second implementation does it, and the order built as a table of 64 rows of 64
+//! entries closed under chains. The weight of every label strictly above each label is summed from the two rows,
+//! and the least taken. There are no bit sets, and the reader's lists and a text alone are allocated; the loops
+//! over rows have no branch inside, so that they compile to vector instructions.
 
-use crate::library::{Plan, Weighed};
+use crate::library::{self, Pair, Plan, Weighed, Written};
 use crate::policy;
+use std::fmt::Write;
 
 pub type Rows = [[bool; 64]; 64];
 
@@ -24,6 +25,29 @@ pub fn read(file: &[u8]) -> Result<Policy, u8> {
         *summand = *count as u32;
     }
     Ok(Policy { labels: read.names.len(), names: read.names, counts, pairs: read.pairs })
+}
+
+pub fn read_policy(file: &[u8]) -> library::Policy {
+    let (counts, over) = ([0; 64], [Pair { upper: 0, lower: 0 }; 512]);
+    let mut answer = library::Policy { refusal: 0, labels: 0, pairs: 0, counts, over };
+    match policy::read(file) {
+        Ok(read) => {
+            (answer.labels, answer.pairs) = (read.names.len(), read.pairs.len());
+            answer.counts[..read.counts.len()].copy_from_slice(&read.counts);
+            for (pair, (upper, lower)) in answer.over.iter_mut().zip(read.pairs) {
+                *pair = Pair { upper, lower };
+            }
+        }
+        Err(refusal) => answer.refusal = refusal,
+    }
+    answer
+}
+
+pub fn order_rows(file: &[u8]) -> library::Rows {
+    match read(file) {
+        Ok(policy) => library::Rows { refusal: 0, rows: order(&policy) },
+        Err(refusal) => library::Rows { refusal, rows: [[false; 64]; 64] },
+    }
 }
 
 /// Entry l of row m says that m is at or below l. An upper label has the smaller number, so the rows above
@@ -92,22 +116,78 @@ fn total(policy: &Policy, sizes: &[u8; 64]) -> u32 {
     policy.counts.iter().zip(sizes).map(|(count, size)| count * *size as u32).sum()
 }
 
+const NO_PLAN: Plan =
+    Plan { refusal: 0, labels: 0, parents: [0; 64], weights: [0; 64], sizes: [0; 64], total: 0 };
+
 pub fn plan(file: &[u8]) -> Plan {
-    let mut plan =
-        Plan { refusal: 0, labels: 0, parents: [0; 64], weights: [0; 64], sizes: [0; 64], total: 0 };
-    let policy = match read(file) {
-        Ok(policy) => policy,
-        Err(refusal) => return Plan { refusal, ..plan },
-    };
-    let rows = order(&policy);
-    plan.labels = policy.labels;
+    read(file).map_or_else(|refusal| Plan { refusal, ..NO_PLAN }, |policy| planned(&policy))
+}
+
+fn planned(policy: &Policy) -> Plan {
+    let mut plan = Plan { labels: policy.labels, ..NO_PLAN };
+    let rows = order(policy);
     plan.weights[0] = policy.counts[0];
     for label in 1..policy.labels {
-        (plan.parents[label], plan.weights[label]) = best_parent(&policy, &rows, label);
+        (plan.parents[label], plan.weights[label]) = best_parent(policy, &rows, label);
     }
-    plan.sizes = sizes(&policy, &rows, &plan.parents);
-    plan.total = total(&policy, &plan.sizes);
+    plan.sizes = sizes(policy, &rows, &plan.parents);
+    plan.total = total(policy, &plan.sizes);
     plan
+}
+
+/// The name of a label without padding.
+fn name(policy: &Policy, label: usize) -> &str {
+    std::str::from_utf8(&policy.names[label]).unwrap().trim_ascii_end()
+}
+
+fn write_text(text: &mut String, policy: &Policy, plan: &Plan) -> std::fmt::Result {
+    for m in 0..policy.labels {
+        let parent = if m == 0 { "-" } else { name(policy, plan.parents[m] as usize) };
+        let (weight, size, accounts) = (plan.weights[m], plan.sizes[m], policy.counts[m]);
+        writeln!(text, "{} {parent} {weight} {size} {accounts}", name(policy, m))?;
+    }
+    writeln!(text, "TOTAL {}", plan.total)
+}
+
+fn write_dot(text: &mut String, policy: &Policy, plan: &Plan) -> std::fmt::Result {
+    text.push_str("digraph plan {\n  node [shape=box];\n");
+    for m in 0..policy.labels {
+        let (name_of_m, weight, size) = (name(policy, m), plan.weights[m], plan.sizes[m]);
+        write!(text, "  \"{name_of_m}\" [label=\"{name_of_m}\\naccounts {}", policy.counts[m])?;
+        writeln!(text, "\\nweight {weight}\\nkeys {size}\"];")?;
+        if m > 0 {
+            writeln!(text, "  \"{}\" -> \"{name_of_m}\";", name(policy, plan.parents[m] as usize))?;
+        }
+    }
+    writeln!(text, "  label=\"TOTAL {}\";\n}}", plan.total)
+}
+
+/// Writes a text of the plan, or of the policy's refusal, into the buffer, if it has room for it.
+fn written(
+    file: &[u8],
+    out: &mut [u8],
+    write: fn(&mut String, &Policy, &Plan) -> std::fmt::Result,
+) -> Written {
+    let mut text = String::with_capacity(8192);
+    let done = match read(file) {
+        Ok(policy) => write(&mut text, &policy, &planned(&policy)),
+        Err(refusal) => writeln!(text, "REFUSED {refusal}"),
+    };
+    match out.get_mut(..text.len()) {
+        Some(start) if done.is_ok() => {
+            start.copy_from_slice(text.as_bytes());
+            Written { refusal: 0, length: text.len() }
+        }
+        _ => Written { refusal: 16, length: 0 },
+    }
+}
+
+pub fn plan_text(file: &[u8], out: &mut [u8]) -> Written {
+    written(file, out, write_text)
+}
+
+pub fn plan_dot(file: &[u8], out: &mut [u8]) -> Written {
+    written(file, out, write_dot)
 }
 
 fn read_tree(policy: &Policy, rows: &Rows, tree: &[u8]) -> Result<[u8; 64], u8> {

@@ -1,5 +1,6 @@
-#include "sha256.h"
-
+/* SHA-256 and HMAC in plain C, a yardstick of the benchmark: the algorithm of FIPS 180-4 as it stands. */
+#include <stddef.h>
+#include <stdint.h>
 #include <string.h>
 
 static const uint32_t K[64] = {

@@ -2,7 +2,9 @@
 
 use crate::envelope::{self, Envelope};
 use crate::files;
+use crate::group::{hex, Group};
 use crate::issuing::{padded, Asked, Counts};
+use crate::ours;
 use crate::random::Random;
 use crate::records;
 use crate::sha256::Sha256;
@@ -91,8 +93,40 @@ fn later_by_hand() -> Vec<(Vec<u8>, u8)> {
     ]
 }
 
+/// Envelopes with the number of records that are read of each.
+fn records_by_hand() -> Vec<(Vec<u8>, usize)> {
+    let start = |records: &[Vec<u8>]| [header(1, "A"), records.concat()].concat();
+    vec![
+        (Vec::new(), 0),
+        (header(1, "A"), 0),
+        ([header(0, "A"), held("A")].concat(), 0),
+        (start(&[below("A", 0)]), 0),
+        (start(&[held("A")]), 1),
+        (start(&[held("A"), b"K".to_vec()]), 1),
+        (start(&[held("A"), held("A"), held("B")]), 1),
+        (start(&[held("A"), below("B", 0), held("C")]), 3),
+        (start(&[held("A"), below("B", 0), below("C", 2), held("D")]), 2),
+        (line(64, false), 64),
+        (line(70, true), 64),
+    ]
+}
+
+/// The account and the labels' names of an envelope, and how many records are read.
+fn labels_by_hand() -> bool {
+    let mut group = Group::new("labels and records of envelopes, counted by hand");
+    let (name, file) = (|name| padded(name).try_into().unwrap(), line(3, true));
+    let labels = Ok((1, vec![name("A"), name("L1"), name("L2")]));
+    group.case(|| hex(&file), ours::labels(&file), labels.clone());
+    group.case(|| format!("{}, second alone", hex(&file)), envelope::labels(&file), labels);
+    for (file, records) in records_by_hand() {
+        group.case(|| format!("{}, second alone", hex(&file)), envelope::records_read(&file), records);
+        group.case(|| hex(&file), ours::envelope_records(&file), records);
+    }
+    group.report("")
+}
+
 /// Refusals come in the table's order, 20 after the whole envelope; the longest chain takes 64 applications.
-pub fn by_hand(hash: &Sha256, counts: &mut Counts) -> bool {
+fn by_hand(hash: &Sha256, counts: &mut Counts) -> bool {
     let mut asked = Asked::new("envelopes with one thing wrong, or two, in the table's order", hash, counts);
     let names = [padded("A"), padded("B"), padded("L63"), padded("NONE"), Vec::new()];
     for (file, number) in starts_by_hand().into_iter().chain(later_by_hand()) {
@@ -110,7 +144,7 @@ pub fn by_hand(hash: &Sha256, counts: &mut Counts) -> bool {
 }
 
 /// Names to ask an envelope for: the first, the last and some others of those it has, and names it has not.
-fn some_names(random: &mut Random, of: &[Vec<u8>]) -> Vec<Vec<u8>> {
+pub fn some_names(random: &mut Random, of: &[Vec<u8>]) -> Vec<Vec<u8>> {
     let mut names = vec![files::name(random).to_vec()];
     if let (Some(first), Some(last)) = (of.first(), of.last()) {
         names.extend([first.clone(), last.clone(), of[random.below(of.len())].clone()]);
@@ -126,7 +160,7 @@ fn some_names(random: &mut Random, of: &[Vec<u8>]) -> Vec<Vec<u8>> {
     names
 }
 
-pub fn damaged(random: &mut Random, hash: &Sha256, counts: &mut Counts) -> bool {
+fn damaged(random: &mut Random, hash: &Sha256, counts: &mut Counts) -> bool {
     let mut asked = Asked::new("40,000 damaged envelopes, several names from each", hash, counts);
     for _ in 0..40_000 {
         let (file, of) = records::damaged(random, hash);
@@ -140,7 +174,7 @@ fn names(envelope: &Envelope) -> Vec<Vec<u8>> {
 }
 
 /// Every name of envelopes that no issuer wrote: several secrets held, chains of up to 64 records.
-pub fn made_up(random: &mut Random, hash: &Sha256, counts: &mut Counts) -> bool {
+fn made_up(random: &mut Random, hash: &Sha256, counts: &mut Counts) -> bool {
     let mut asked = Asked::new("2,000 envelopes that no issuer wrote, every name from each", hash, counts);
     for i in 0..2000 {
         let records = if i < 70 { i + 1 } else { 1 + random.below(70) };
@@ -152,7 +186,7 @@ pub fn made_up(random: &mut Random, hash: &Sha256, counts: &mut Counts) -> bool 
 }
 
 /// Issued envelopes and full ones, cut at every length.
-pub fn cut(random: &mut Random, hash: &Sha256, counts: &mut Counts) -> bool {
+fn cut(random: &mut Random, hash: &Sha256, counts: &mut Counts) -> bool {
     let mut asked = Asked::new("60 envelopes, cut at every length", hash, counts);
     for i in 0..60 {
         let envelope = match i {
@@ -169,7 +203,7 @@ pub fn cut(random: &mut Random, hash: &Sha256, counts: &mut Counts) -> bool {
 }
 
 /// Noise of every length to 2,800 that starts like an envelope.
-pub fn noise(random: &mut Random, hash: &Sha256, counts: &mut Counts) -> bool {
+fn noise(random: &mut Random, hash: &Sha256, counts: &mut Counts) -> bool {
     let mut asked = Asked::new("noise of every length to 2,800 that starts like an envelope", hash, counts);
     for length in 0..=2800 {
         for _ in 0..4 {
@@ -179,4 +213,15 @@ pub fn noise(random: &mut Random, hash: &Sha256, counts: &mut Counts) -> bool {
         }
     }
     asked.report()
+}
+
+pub fn groups(random: &mut Random, hash: &Sha256, counts: &mut Counts) -> Vec<bool> {
+    vec![
+        labels_by_hand(),
+        by_hand(hash, counts),
+        damaged(random, hash, counts),
+        made_up(random, hash, counts),
+        cut(random, hash, counts),
+        noise(random, hash, counts),
+    ]
 }

@@ -67,22 +67,33 @@ impl Envelope {
 
     /// Reads a whole envelope, or gives the number of its refusal.
     pub fn read(file: &[u8]) -> Result<Envelope, u8> {
-        if file.len() < 12 || !file.starts_with(b"EN") || file[2..4] == [0, 0] {
-            return Err(17);
-        }
-        let account = u16::from_be_bytes([file[2], file[3]]);
-        let mut envelope = Envelope { account, label: file[4..12].try_into().unwrap(), records: Vec::new() };
-        let mut rest = &file[12..];
-        while !rest.is_empty() {
-            let (record, after) = Record::first(rest)?;
-            envelope.check(&record)?;
-            envelope.records.push(record);
-            rest = after;
-        }
+        let (mut envelope, records) = Envelope::begun(file)?;
+        envelope.read_records(records)?;
         if envelope.records.is_empty() {
             return Err(18);
         }
         Ok(envelope)
+    }
+
+    /// Reads the header: an envelope without records, and the bytes of these.
+    fn begun(file: &[u8]) -> Result<(Envelope, &[u8]), u8> {
+        if file.len() < 12 || !file.starts_with(b"EN") || file[2..4] == [0, 0] {
+            return Err(17);
+        }
+        let account = u16::from_be_bytes([file[2], file[3]]);
+        let label = file[4..12].try_into().unwrap();
+        Ok((Envelope { account, label, records: Vec::new() }, &file[12..]))
+    }
+
+    /// Adds the records up to the end of the bytes, or to the first that is refused.
+    fn read_records(&mut self, mut rest: &[u8]) -> Result<(), u8> {
+        while !rest.is_empty() {
+            let (record, after) = Record::first(rest)?;
+            self.check(&record)?;
+            self.records.push(record);
+            rest = after;
+        }
+        Ok(())
     }
 
     /// Whether the record may follow those that are there.
@@ -100,6 +111,19 @@ impl Envelope {
             _ => Ok(()),
         }
     }
+}
+
+/// The account of an envelope and the names of its records in order, or the refusal.
+pub fn labels(file: &[u8]) -> Result<(u16, Vec<Name>), u8> {
+    let envelope = Envelope::read(file)?;
+    Ok((envelope.account, envelope.records.iter().map(|record| record.name).collect()))
+}
+
+/// How many records are read before the envelope's end or its first refused record.
+pub fn records_read(file: &[u8]) -> usize {
+    let Ok((mut envelope, records)) = Envelope::begun(file) else { return 0 };
+    let _ = envelope.read_records(records);
+    envelope.records.len()
 }
 
 /// The issuer: an accepted policy with its plan.

@@ -84,15 +84,17 @@ pub fn any_policy(random: &mut Random) -> Policy {
     policy(random, labels, more)
 }
 
-/// A file one record over a limit: a 65th label, or a 513th pair.
+/// A file one record over a limit: a 65th label or a 513th pair, with nothing else wrong or something.
 pub fn overfull(random: &mut Random) -> Vec<u8> {
     let mut full = policy(random, MOST_LABELS, MOST_PAIRS);
-    if random.once_in(2) {
-        full.names.push(*b"ONEMORE1");
-        full.counts.push(1);
-    } else {
-        full.pairs.push((0, 1));
+    match random.below(6) {
+        0 => full.names.push(*b"ONEMORE1"),
+        1 => full.names.push(full.names[0]),
+        2 => full.names.push(*b"one more"),
+        3 => full.pairs.push((random.byte(), random.byte())),
+        _ => full.pairs.push((0, 1)),
     }
+    full.counts.resize(full.names.len(), 1);
     full.to_bytes()
 }
 
@@ -274,6 +276,18 @@ pub fn shaped(random: &mut Random, labels: usize, more_pairs: usize) -> Policy {
     with_pairs(random, labels, pairs)
 }
 
+/// A full policy with names of 8 bytes and many accounts, so that its texts are about the longest.
+fn longest(random: &mut Random) -> Policy {
+    let mut policy = shaped(random, MOST_LABELS, MOST_PAIRS);
+    let long = |l: usize| format!("LONGEST{}", NAME_BYTES[l % 32] as char).into_bytes();
+    for l in 0..MOST_LABELS {
+        policy.names[l] = long(l).try_into().unwrap();
+        policy.names[l][0] -= (l / 32) as u8;
+        policy.counts[l] = 65_535 - random.below(9) as u16;
+    }
+    policy
+}
+
 /// A policy of any size and shape; each eighth is full, with 64 labels and 512 pairs.
 pub fn any_size(random: &mut Random, i: usize) -> Policy {
     let most_labels = random.choose(&[8, 20, MOST_LABELS]);
@@ -282,6 +296,7 @@ pub fn any_size(random: &mut Random, i: usize) -> Policy {
     match i {
         0..=63 => shaped(random, i + 1, 512),
         _ if i % 8 == 0 => shaped(random, 64, 512),
+        _ if i % 16 == 1 => longest(random),
         _ if i % 8 == 1 => any_policy(random),
         _ => shaped(random, labels, more),
     }

@@ -2,13 +2,12 @@
 
 use crate::envelope::{self, Envelope, Issuer, Key, Source};
 use crate::files;
-use crate::group::{hex, Group};
+use crate::group::{hex, Answers, Group};
 use crate::ours;
 use crate::policy::{self, Policy};
 use crate::random::Random;
 use crate::sha256::Sha256;
 use crate::tree::Planned;
-use std::collections::BTreeMap;
 
 /// What the library was asked for, over all groups.
 #[derive(Default)]
@@ -45,16 +44,16 @@ pub struct Asked<'a> {
     pub group: Group,
     pub hash: &'a Sha256,
     counts: &'a mut Counts,
-    answers: BTreeMap<u8, usize>,
+    answers: Answers,
 }
 
 impl<'a> Asked<'a> {
     pub fn new(name: &'static str, hash: &'a Sha256, counts: &'a mut Counts) -> Asked<'a> {
-        Asked { group: Group::new(name), hash, counts, answers: BTreeMap::new() }
+        Asked { group: Group::new(name), hash, counts, answers: Answers::default() }
     }
 
     fn answered(&mut self, refusal: u8) {
-        *self.answers.entry(refusal).or_default() += 1;
+        self.answers.add(refusal, 1);
     }
 
     pub fn key(&mut self, file: &[u8], name: &[u8], root: &[u8], expected: Result<Key, u8>) {
@@ -88,8 +87,11 @@ impl<'a> Asked<'a> {
         self.group.case(what, ours::derive(envelope, name), expected);
     }
 
-    /// Each name from one envelope, as the second implementation derives it.
+    /// Each name from one envelope, as the second implementation derives it, its labels, and how far it is read.
     pub fn derive_each(&mut self, envelope: &[u8], names: &[Vec<u8>]) {
+        let what = || format!("labels or records of {}", hex(envelope));
+        let ours = (ours::labels(envelope), ours::envelope_records(envelope));
+        self.group.case(what, ours, (envelope::labels(envelope), envelope::records_read(envelope)));
         let answers = envelope::derive(self.hash, envelope, names);
         for (name, expected) in names.iter().zip(answers) {
             self.derive(envelope, name, expected);
@@ -97,8 +99,7 @@ impl<'a> Asked<'a> {
     }
 
     pub fn report(self) -> bool {
-        let counted: Vec<String> = self.answers.iter().map(|(n, times)| format!("{n}: {times}")).collect();
-        self.group.report(&format!(" (by refusal, 0 is none: {})", counted.join(", ")))
+        self.group.report(&self.answers.text())
     }
 }
 
@@ -128,7 +129,7 @@ const DERIVED_BY_HAND: [(&str, &str, Result<u8, u8>); 5] = [
 ];
 
 /// The sentences that document 01 checked by hand, asked of the library and of the second implementation.
-pub fn by_hand(hash: &Sha256, counts: &mut Counts) -> bool {
+fn by_hand(hash: &Sha256, counts: &mut Counts) -> bool {
     let mut asked = Asked::new("envelopes of E that document 01 checked by hand", hash, counts);
     let file = files::written_e(&files::E_PAIRS);
     let policy = policy::read(&file).unwrap();
@@ -159,7 +160,7 @@ pub fn by_hand(hash: &Sha256, counts: &mut Counts) -> bool {
 
 /// Names that the policy does not have: foreign ones, and one of its own in lower case, altered, and in other
 /// lengths.
-fn other_names(random: &mut Random, policy: &Policy) -> Vec<Vec<u8>> {
+pub fn other_names(random: &mut Random, policy: &Policy) -> Vec<Vec<u8>> {
     let name = policy.names[random.below(policy.names.len())];
     let mut altered = name;
     altered[random.below(8)] ^= 1 << random.below(8);
@@ -227,7 +228,7 @@ fn every_label(asked: &mut Asked, random: &mut Random, policy: &Policy) {
 }
 
 /// Policies of every size, 64 labels and 512 pairs among them.
-pub fn every_envelope(random: &mut Random, hash: &Sha256, counts: &mut Counts) -> bool {
+fn every_envelope(random: &mut Random, hash: &Sha256, counts: &mut Counts) -> bool {
     let mut asked = Asked::new("2,400 policies, an envelope of each label, every name from it", hash, counts);
     for i in 0..2400 {
         let labels = 1 + random.below(24);
@@ -281,7 +282,7 @@ fn every_wrong(asked: &mut Asked, random: &mut Random, policy: &Policy) {
     }
 }
 
-pub fn wrong_calls(random: &mut Random, hash: &Sha256, counts: &mut Counts) -> bool {
+fn wrong_calls(random: &mut Random, hash: &Sha256, counts: &mut Counts) -> bool {
     let name = "320 policies, wrong names, accounts, roots and buffers in all combinations";
     let mut asked = Asked::new(name, hash, counts);
     for i in 0..320 {
@@ -297,7 +298,7 @@ pub fn wrong_calls(random: &mut Random, hash: &Sha256, counts: &mut Counts) -> b
 }
 
 /// Every room from none to some bytes more than the envelope.
-pub fn rooms(random: &mut Random, hash: &Sha256, counts: &mut Counts) -> bool {
+fn rooms(random: &mut Random, hash: &Sha256, counts: &mut Counts) -> bool {
     let mut asked = Asked::new("envelopes into buffers of every length", hash, counts);
     for labels in [1, 2, 3, 4, 7, 12, 20, 40, 64] {
         let mut made = files::shaped(random, labels, labels);
@@ -318,7 +319,7 @@ pub fn rooms(random: &mut Random, hash: &Sha256, counts: &mut Counts) -> bool {
 }
 
 /// With a refused policy everything else may be right or wrong.
-pub fn refused(random: &mut Random, hash: &Sha256, counts: &mut Counts) -> bool {
+fn refused(random: &mut Random, hash: &Sha256, counts: &mut Counts) -> bool {
     let mut asked = Asked::new("6,000 refused policies: keys and envelopes", hash, counts);
     for _ in 0..6000 {
         let (file, number) = files::refused_policy(random);
@@ -332,4 +333,14 @@ pub fn refused(random: &mut Random, hash: &Sha256, counts: &mut Counts) -> bool 
         }
     }
     asked.report()
+}
+
+pub fn groups(random: &mut Random, hash: &Sha256, counts: &mut Counts) -> Vec<bool> {
+    vec![
+        by_hand(hash, counts),
+        every_envelope(random, hash, counts),
+        wrong_calls(random, hash, counts),
+        rooms(random, hash, counts),
+        refused(random, hash, counts),
+    ]
 }

@@ -1,25 +1,34 @@
 //! The C interface of the proved library.
 
 #[repr(C)]
+#[derive(Debug, PartialEq)]
 pub struct Digest {
     pub refusal: u8,
     pub bytes: [u8; 32],
 }
 
 #[repr(C)]
-#[derive(Clone, Copy)]
+#[derive(Clone, Copy, Debug, PartialEq)]
 pub struct Pair {
     pub upper: u8,
     pub lower: u8,
 }
 
 #[repr(C)]
+#[derive(Debug, PartialEq)]
 pub struct Policy {
     pub refusal: u8,
     pub labels: usize,
     pub pairs: usize,
     pub counts: [u16; 64],
     pub over: [Pair; 512],
+}
+
+#[repr(C)]
+#[derive(Debug, PartialEq)]
+pub struct Rows {
+    pub refusal: u8,
+    pub rows: [[bool; 64]; 64],
 }
 
 #[repr(C)]
@@ -42,6 +51,7 @@ pub struct Weighed {
 }
 
 #[repr(C)]
+#[derive(Debug, PartialEq)]
 pub struct Written {
     pub refusal: u8,
     pub length: usize,
@@ -69,6 +79,15 @@ pub struct Derived {
     pub applications: u8,
 }
 
+#[repr(C)]
+#[derive(Debug, PartialEq)]
+pub struct Labels {
+    pub refusal: u8,
+    pub account: u16,
+    pub labels: usize,
+    pub names: [u8; 512],
+}
+
 extern "C" {
     pub fn yendlowa_sha256(message: *const u8, length: usize) -> Digest;
     pub fn yendlowa_hmac_sha256(
@@ -78,7 +97,7 @@ extern "C" {
         message_length: usize,
     ) -> Digest;
     pub fn yendlowa_read_policy(policy: *const u8, length: usize) -> Policy;
-    pub fn yendlowa_order(policy: *const u8, length: usize, rows: *mut [[bool; 64]; 64]) -> u8;
+    pub fn yendlowa_order(policy: *const u8, length: usize) -> Rows;
     pub fn yendlowa_plan(policy: *const u8, length: usize) -> Plan;
     pub fn yendlowa_weigh(
         policy: *const u8,
@@ -92,6 +111,13 @@ extern "C" {
         out: *mut u8,
         out_length: usize,
     ) -> Written;
+    pub fn yendlowa_plan_dot(
+        policy: *const u8,
+        policy_length: usize,
+        out: *mut u8,
+        out_length: usize,
+    ) -> Written;
+    pub fn yendlowa_policy_records(policy: *const u8, length: usize) -> usize;
     pub fn yendlowa_issuer_key(
         policy: *const u8,
         policy_length: usize,
@@ -117,4 +143,6 @@ extern "C" {
         name: *const u8,
         name_length: usize,
     ) -> Derived;
+    pub fn yendlowa_labels(envelope: *const u8, length: usize) -> Labels;
+    pub fn yendlowa_envelope_records(envelope: *const u8, length: usize) -> usize;
 }

@@ -1,16 +1,26 @@
-//! The proved library, through its C interface. Each wrapper takes slices and gives plain values.
+//! The proved library, through its C interface. Each wrapper takes slices and gives plain values. An empty slice is
+//! passed as a null pointer.
 
 use crate::library::*;
 use crate::{policy, tree};
+use std::ptr::{null, null_mut};
+
+fn at(bytes: &[u8]) -> *const u8 {
+    if bytes.is_empty() { null() } else { bytes.as_ptr() }
+}
+
+fn at_mut(bytes: &mut [u8]) -> *mut u8 {
+    if bytes.is_empty() { null_mut() } else { bytes.as_mut_ptr() }
+}
 
 pub fn sha256(message: &[u8]) -> (u8, [u8; 32]) {
-    let digest = unsafe { yendlowa_sha256(message.as_ptr(), message.len()) };
+    let digest = unsafe { yendlowa_sha256(at(message), message.len()) };
     (digest.refusal, digest.bytes)
 }
 
 pub fn hmac_sha256(key: &[u8], message: &[u8]) -> (u8, [u8; 32]) {
     let digest = unsafe {
-        yendlowa_hmac_sha256(key.as_ptr(), key.len(), message.as_ptr(), message.len())
+        yendlowa_hmac_sha256(at(key), key.len(), at(message), message.len())
     };
     (digest.refusal, digest.bytes)
 }
@@ -18,11 +28,11 @@ pub fn hmac_sha256(key: &[u8], message: &[u8]) -> (u8, [u8; 32]) {
 /// Label count, counts and pairs, or the refusal. An entry past the counts that is not zero, or any
 /// number beside a refusal, is a difference and reported as the error 255.
 pub fn read_policy(policy: &[u8]) -> Result<(Vec<u16>, Vec<(u8, u8)>), u8> {
-    let read = unsafe { yendlowa_read_policy(policy.as_ptr(), policy.len()) };
+    let read = unsafe { yendlowa_read_policy(at(policy), policy.len()) };
     let behind_zero = read.counts.iter().skip(read.labels).all(|c| *c == 0)
         && read.over.iter().skip(read.pairs).all(|p| (p.upper, p.lower) == (0, 0));
     let zero = read.labels == 0 && read.pairs == 0;
-    if !behind_zero || (read.refusal != 0 && !zero) {
+    if read.labels > 64 || read.pairs > 512 || !behind_zero || (read.refusal != 0 && !zero) {
         return Err(255);
     }
     if read.refusal != 0 {
@@ -32,11 +42,14 @@ pub fn read_policy(policy: &[u8]) -> Result<(Vec<u16>, Vec<(u8, u8)>), u8> {
     Ok((read.counts[..read.labels].to_vec(), pairs))
 }
 
-/// The order's rows, and the refusal. The rows start as all true, so that each is seen to be written.
-pub fn order(policy: &[u8]) -> (u8, Box<[[bool; 64]; 64]>) {
-    let mut rows = Box::new([[true; 64]; 64]);
-    let refusal = unsafe { yendlowa_order(policy.as_ptr(), policy.len(), &mut *rows) };
-    (refusal, rows)
+pub fn policy_records(policy: &[u8]) -> usize {
+    unsafe { yendlowa_policy_records(at(policy), policy.len()) }
+}
+
+/// The order's rows, and the refusal.
+pub fn order(policy: &[u8]) -> (u8, [[bool; 64]; 64]) {
+    let order = unsafe { yendlowa_order(at(policy), policy.len()) };
+    (order.refusal, order.rows)
 }
 
 /// What `read_policy` should give for a policy that the second implementation read.
@@ -47,7 +60,7 @@ pub fn expected(policy: &policy::Policy) -> (Vec<u16>, Vec<(u8, u8)>) {
 /// The plan, or the refusal. Entries past the label count, and all beside a refusal, have to be zero; else
 /// the error is 255.
 pub fn plan(policy: &[u8]) -> Result<tree::Plan, u8> {
-    let made = unsafe { yendlowa_plan(policy.as_ptr(), policy.len()) };
+    let made = unsafe { yendlowa_plan(at(policy), policy.len()) };
     let labels = made.labels;
     let behind_zero = made.parents.iter().skip(labels).all(|parent| *parent == 0)
         && made.weights.iter().skip(labels).all(|weight| *weight == 0)
@@ -69,7 +82,7 @@ pub fn plan(policy: &[u8]) -> Result<tree::Plan, u8> {
 /// A tree's total and whether it is least, or the refusal. Beside a refusal stand 0 and no; else the error
 /// is 255.
 pub fn weigh(policy: &[u8], tree: &[u8]) -> Result<(u32, bool), u8> {
-    let weighed = unsafe { yendlowa_weigh(policy.as_ptr(), policy.len(), tree.as_ptr(), tree.len()) };
+    let weighed = unsafe { yendlowa_weigh(at(policy), policy.len(), at(tree), tree.len()) };
     match (weighed.refusal, weighed.total, weighed.least) {
         (0, total, least) => Ok((total, least)),
         (number, 0, false) => Err(number),
@@ -80,7 +93,15 @@ pub fn weigh(policy: &[u8], tree: &[u8]) -> Result<(u32, bool), u8> {
 /// The refusal and the length of the text that was written into `out`.
 pub fn plan_text(policy: &[u8], out: &mut [u8]) -> (u8, usize) {
     let written = unsafe {
-        yendlowa_plan_text(policy.as_ptr(), policy.len(), out.as_mut_ptr(), out.len())
+        yendlowa_plan_text(at(policy), policy.len(), at_mut(out), out.len())
+    };
+    (written.refusal, written.length)
+}
+
+/// The same of the drawing.
+pub fn plan_dot(policy: &[u8], out: &mut [u8]) -> (u8, usize) {
+    let written = unsafe {
+        yendlowa_plan_dot(at(policy), policy.len(), at_mut(out), out.len())
     };
     (written.refusal, written.length)
 }
@@ -88,8 +109,8 @@ pub fn plan_text(policy: &[u8], out: &mut [u8]) -> (u8, usize) {
 /// The issuer's key, or the refusal. Beside a refusal stand 32 zero bytes; else the error is 255.
 pub fn issuer_key(policy: &[u8], name: &[u8], root: &[u8]) -> Result<[u8; 32], u8> {
     let answer = unsafe {
-        let (policy, length) = (policy.as_ptr(), policy.len());
-        yendlowa_issuer_key(policy, length, name.as_ptr(), name.len(), root.as_ptr(), root.len())
+        let (policy, length) = (at(policy), policy.len());
+        yendlowa_issuer_key(policy, length, at(name), name.len(), at(root), root.len())
     };
     match (answer.refusal, answer.key) {
         (0, key) => Ok(key),
@@ -103,14 +124,14 @@ pub fn issuer_key(policy: &[u8], name: &[u8], root: &[u8]) -> Result<[u8; 32], u
 pub fn issue(policy: &[u8], name: &[u8], account: u32, root: &[u8], envelope: &mut [u8]) -> Result<usize, u8> {
     let issued = unsafe {
         yendlowa_issue(
-            policy.as_ptr(),
+            at(policy),
             policy.len(),
-            name.as_ptr(),
+            at(name),
             name.len(),
             account,
-            root.as_ptr(),
+            at(root),
             root.len(),
-            envelope.as_mut_ptr(),
+            at_mut(envelope),
             envelope.len(),
         )
     };
@@ -124,10 +145,27 @@ pub fn issue(policy: &[u8], name: &[u8], account: u32, root: &[u8], envelope: &m
 /// The key and the number of applications, or the refusal. Beside a refusal stand 32 zero bytes and 0; else the
 /// error is 255.
 pub fn derive(envelope: &[u8], name: &[u8]) -> Result<([u8; 32], u8), u8> {
-    let derived = unsafe { yendlowa_derive(envelope.as_ptr(), envelope.len(), name.as_ptr(), name.len()) };
+    let derived = unsafe { yendlowa_derive(at(envelope), envelope.len(), at(name), name.len()) };
     match (derived.refusal, derived.key, derived.applications) {
         (0, key, applications) => Ok((key, applications)),
         (number, key, 0) if key == [0; 32] => Err(number),
         _ => Err(255),
     }
+}
+
+/// The account and the names, or the refusal. Names past the labels, and all beside a refusal, have to be zero;
+/// else the error is 255.
+pub fn labels(envelope: &[u8]) -> Result<(u16, Vec<[u8; 8]>), u8> {
+    let read = unsafe { yendlowa_labels(at(envelope), envelope.len()) };
+    let names: Vec<[u8; 8]> = read.names.chunks(8).map(|name| name.try_into().unwrap()).collect();
+    let behind_zero = names.iter().skip(read.labels).all(|name| *name == [0; 8]);
+    match (read.refusal, read.account, read.labels) {
+        (0, account, labels @ ..=64) if behind_zero => Ok((account, names[..labels].to_vec())),
+        (number, 0, 0) if number != 0 && behind_zero => Err(number),
+        _ => Err(255),
+    }
+}
+
+pub fn envelope_records(envelope: &[u8]) -> usize {
+    unsafe { yendlowa_envelope_records(at(envelope), envelope.len()) }
 }

@@ -1,13 +1,23 @@
-//! The groups that compare plans, weighed trees and texts.
+//! The groups that compare plans, weighed trees, texts and drawings.
 
 use crate::brute::{self, Tried};
 use crate::files;
-use crate::group::{hex, Group};
+use crate::group::{hex, Answers, Group};
 use crate::ours;
 use crate::policy::Policy;
 use crate::random::Random;
 use crate::tree::{self, Plan, Planned};
-use std::collections::BTreeMap;
+
+/// A way to write a plan: ours into a buffer, with refusal and length, and the second implementation's bytes.
+struct Form {
+    name: &'static str,
+    ours: fn(&[u8], &mut [u8]) -> (u8, usize),
+    second: fn(&[u8]) -> Vec<u8>,
+}
+
+const TEXT: Form = Form { name: "text", ours: ours::plan_text, second: tree::text };
+const DOT: Form = Form { name: "drawing", ours: ours::plan_dot, second: tree::dot };
+const FORMS: [Form; 2] = [TEXT, DOT];
 
 /// What the library was asked for, over all groups.
 #[derive(Default)]
@@ -21,12 +31,12 @@ pub struct Counts {
 struct Asked<'a> {
     group: Group,
     counts: &'a mut Counts,
-    answers: BTreeMap<u8, usize>,
+    answers: Answers,
 }
 
 impl<'a> Asked<'a> {
     fn new(name: &'static str, counts: &'a mut Counts) -> Asked<'a> {
-        Asked { group: Group::new(name), counts, answers: BTreeMap::new() }
+        Asked { group: Group::new(name), counts, answers: Answers::default() }
     }
 
     fn plan(&mut self, file: &[u8], expected: Result<Plan, u8>) {
@@ -36,36 +46,38 @@ impl<'a> Asked<'a> {
 
     fn weigh(&mut self, file: &[u8], tree: &[u8], expected: Result<(u32, bool), u8>) {
         self.counts.trees += 1;
-        *self.answers.entry(expected.err().unwrap_or(0)).or_default() += 1;
+        self.answers.add(expected.err().unwrap_or(0), 1);
         let what = || format!("tree {} of {}", hex(tree), hex(file));
         self.group.case(what, ours::weigh(file, tree), expected);
     }
 
     /// The text goes to the buffer's start, and all behind it stays; a buffer that is too short stays whole.
-    fn text(&mut self, file: &[u8], text: &[u8], room: usize) {
+    fn text(&mut self, form: &Form, file: &[u8], text: &[u8], room: usize) {
         self.counts.texts += 1;
         let mut buffer: Vec<u8> = (0..room).map(|i| 128 + (i * 37 % 128) as u8).collect();
         let mut expected = buffer.clone();
         let answer = if room < text.len() { (16, 0) } else { (0, text.len()) };
         expected[..answer.1].copy_from_slice(&text[..answer.1]);
-        let said = ours::plan_text(file, &mut buffer);
-        let what = || format!("text of {} with {room} bytes", hex(file));
+        let said = (form.ours)(file, &mut buffer);
+        let what = || format!("{} of {} with {room} bytes", form.name, hex(file));
         self.group.case(what, (said, buffer), (answer, expected));
     }
 
-    /// The text with room for it, just room, one byte less, and more or less at random.
-    fn texts(&mut self, random: &mut Random, file: &[u8], text: &[u8]) {
-        let length = text.len();
-        let some = [random.below(length), length + random.below(5000)];
-        for room in [4096, length, length - 1, length + 1, 0].into_iter().chain(some) {
-            self.text(file, text, room);
+    /// Text and drawing with room for it, just room, one byte less, and more or less at random.
+    fn texts(&mut self, random: &mut Random, file: &[u8]) {
+        for form in &FORMS {
+            let text = (form.second)(file);
+            let length = text.len();
+            let some = [random.below(length), length + random.below(5000)];
+            for room in [8192, length, length - 1, length + 1, 0].into_iter().chain(some) {
+                self.text(form, file, &text, room);
+            }
         }
     }
 
     fn report(self) -> bool {
-        let counted: Vec<String> = self.answers.iter().map(|(n, times)| format!("{n}: {times}")).collect();
-        let trees = format!(" (trees by refusal, 0 is none: {})", counted.join(", "));
-        self.group.report(if counted.is_empty() { "" } else { &trees })
+        let trees = format!(", trees{}", self.answers.text());
+        self.group.report(if self.answers.seen().is_empty() { "" } else { &trees })
     }
 }
 
@@ -75,6 +87,19 @@ CONV32 SUITE 5 1 5
 ACCRUED CONV32 7 1 4
 TOTAL 17
 ";
+
+const E_DOT: &str = r#"digraph plan {
+  node [shape=box];
+  "SUITE" [label="SUITE\naccounts 2\nweight 2\nkeys 1"];
+  "CURVES" [label="CURVES\naccounts 3\nweight 3\nkeys 2"];
+  "SUITE" -> "CURVES";
+  "CONV32" [label="CONV32\naccounts 5\nweight 5\nkeys 1"];
+  "SUITE" -> "CONV32";
+  "ACCRUED" [label="ACCRUED\naccounts 4\nweight 7\nkeys 1"];
+  "CONV32" -> "ACCRUED";
+  label="TOTAL 17";
+}
+"#;
 
 /// 9 labels below the top and 54 below each of these, with 65,535 accounts each. In the plan the 54 hang from
 /// label 1, so each of the other 8 holds 54 keys beside its own.
@@ -155,14 +180,16 @@ fn trees_by_hand() -> Vec<(Vec<u8>, Vec<u8>, Result<(u32, bool), u8>)> {
 }
 
 /// The sentences that document 01 checked by hand, asked of the library and of the second implementation.
-pub fn by_hand(counts: &mut Counts) -> bool {
-    let mut asked = Asked::new("plans, trees and texts that document 01 checked by hand", counts);
+fn by_hand(counts: &mut Counts) -> bool {
+    let mut asked = Asked::new("plans, trees, texts and drawings, document 01's and others checked by hand", counts);
     for (name, file, answer) in plans_by_hand() {
         asked.group.case(|| format!("{name}, second alone"), tree::plan(&file), answer.clone());
         asked.plan(&file, answer.clone());
-        asked.text(&file, &tree::text(&file), 4096);
-        if let Err(number) = answer {
-            asked.text(&file, format!("REFUSED {number}\n").as_bytes(), 4096);
+        for form in &FORMS {
+            asked.text(form, &file, &(form.second)(&file), 8192);
+            if let Err(number) = answer {
+                asked.text(form, &file, format!("REFUSED {number}\n").as_bytes(), 8192);
+            }
         }
     }
     for (file, offered, answer) in trees_by_hand() {
@@ -171,9 +198,11 @@ pub fn by_hand(counts: &mut Counts) -> bool {
         asked.weigh(&file, &offered, answer);
     }
     let e = files::written_e(&files::E_PAIRS);
-    asked.group.case(|| "E, second alone".to_string(), tree::text(&e), E_TEXT.as_bytes().to_vec());
-    for room in 0..E_TEXT.len() + 9 {
-        asked.text(&e, E_TEXT.as_bytes(), room);
+    for (form, text) in [(TEXT, E_TEXT.as_bytes()), (DOT, E_DOT.as_bytes())] {
+        asked.group.case(|| format!("{} of E, second alone", form.name), (form.second)(&e), text.to_vec());
+        for room in 0..text.len() + 9 {
+            asked.text(&form, &e, text, room);
+        }
     }
     asked.report()
 }
@@ -226,12 +255,14 @@ fn tried_policy(asked: &mut Asked, made: &Policy) {
         asked.group.case(what, hangs_from(&least, &one.tree), one.total == fewest);
         asked.weigh(&file, &files::tree_file(&one.tree), Ok((one.total, one.total == fewest)));
     }
-    let text = planned.text();
-    asked.text(&file, &text, text.len());
+    for form in &FORMS {
+        let text = (form.second)(&file);
+        asked.text(form, &file, &text, text.len());
+    }
 }
 
 /// Every set of pairs over up to six labels; over up to five, with several counts.
-pub fn tried_every_order(random: &mut Random, counts: &mut Counts) -> bool {
+fn tried_every_order(random: &mut Random, counts: &mut Counts) -> bool {
     let mut asked = Asked::new("every order of up to 6 labels, every tree and set tried", counts);
     for labels in 1..=6 {
         for _ in 0..[40, 40, 40, 12, 4, 1][labels - 1] {
@@ -243,7 +274,7 @@ pub fn tried_every_order(random: &mut Random, counts: &mut Counts) -> bool {
     asked.report()
 }
 
-pub fn tried_shapes(random: &mut Random, counts: &mut Counts) -> bool {
+fn tried_shapes(random: &mut Random, counts: &mut Counts) -> bool {
     let mut asked = Asked::new("policies of 7 labels in all shapes, every tree and set tried", counts);
     for _ in 0..3000 {
         let more = random.below(8);
@@ -253,7 +284,7 @@ pub fn tried_shapes(random: &mut Random, counts: &mut Counts) -> bool {
 }
 
 /// Every byte string behind `TR` as long as the label count, of bytes up to that count.
-pub fn every_tree_file(random: &mut Random, counts: &mut Counts) -> bool {
+fn every_tree_file(random: &mut Random, counts: &mut Counts) -> bool {
     let mut asked = Asked::new("every tree file over every order of up to 4 labels", counts);
     for labels in 1..=4u32 {
         for made in files::every_order(random, labels as usize) {
@@ -268,8 +299,8 @@ pub fn every_tree_file(random: &mut Random, counts: &mut Counts) -> bool {
     asked.report()
 }
 
-pub fn larger(random: &mut Random, counts: &mut Counts) -> bool {
-    let mut asked = Asked::new("policies of up to 64 labels and 512 pairs, their trees and texts", counts);
+fn larger(random: &mut Random, counts: &mut Counts) -> bool {
+    let mut asked = Asked::new("policies of up to 64 labels and 512 pairs, their trees, texts and drawings", counts);
     for i in 0..3000 {
         let made = files::any_size(random, i);
         let (file, planned) = (made.to_bytes(), Planned::new(&made));
@@ -294,7 +325,7 @@ pub fn larger(random: &mut Random, counts: &mut Counts) -> bool {
             asked.group.case(what, hangs_from(&least, &tree), by_weights == planned.plan.total);
             asked.weigh(&file, &offered, planned.weigh(&offered));
         }
-        asked.texts(random, &file, &planned.text());
+        asked.texts(random, &file);
     }
     asked.report()
 }
@@ -328,7 +359,7 @@ fn every_byte(random: &mut Random, planned: &Planned) -> Vec<Vec<u8>> {
     list
 }
 
-pub fn tree_files(random: &mut Random, counts: &mut Counts) -> bool {
+fn tree_files(random: &mut Random, counts: &mut Counts) -> bool {
     let mut asked = Asked::new("tree files of every length to 70, with every byte, damaged", counts);
     for i in 0..600 {
         let made = files::any_size(random, [0, 3, 12, 63].get(i).copied().unwrap_or(i));
@@ -347,8 +378,8 @@ pub fn tree_files(random: &mut Random, counts: &mut Counts) -> bool {
     asked.report()
 }
 
-pub fn refused(random: &mut Random, counts: &mut Counts) -> bool {
-    let mut asked = Asked::new("refused policies: plans, trees of every kind and texts", counts);
+fn refused(random: &mut Random, counts: &mut Counts) -> bool {
+    let mut asked = Asked::new("refused policies: plans, trees of every kind, texts and drawings", counts);
     for _ in 0..6000 {
         let (file, number) = files::refused_policy(random);
         let other = files::any_size(random, 100);
@@ -365,27 +396,42 @@ pub fn refused(random: &mut Random, counts: &mut Counts) -> bool {
         for tree in trees {
             asked.weigh(&file, &tree, Err(number));
         }
-        asked.texts(random, &file, &tree::refused_text(number));
+        asked.texts(random, &file);
     }
     asked.report()
 }
 
 /// Every room from none to some bytes more than the text.
-pub fn rooms(random: &mut Random, counts: &mut Counts) -> bool {
-    let mut asked = Asked::new("texts into buffers of every length", counts);
-    for i in [0, 1, 3, 7, 20, 63] {
-        let file = files::any_size(random, i).to_bytes();
-        let text = tree::text(&file);
-        for room in 0..text.len() + 70 {
-            asked.text(&file, &text, room);
+fn rooms(random: &mut Random, counts: &mut Counts) -> bool {
+    let mut asked = Asked::new("texts and drawings into buffers of every length", counts);
+    for form in &FORMS {
+        for i in [0, 1, 3, 7, 20, 63] {
+            let file = files::any_size(random, i).to_bytes();
+            let text = (form.second)(&file);
+            for room in 0..text.len() + 70 {
+                asked.text(form, &file, &text, room);
+            }
+            asked.text(form, &file, &text, 65_536);
         }
-        asked.text(&file, &text, 65_536);
-    }
-    for _ in 0..200 {
-        let (file, number) = files::refused_policy(random);
-        for room in 0..30 {
-            asked.text(&file, &tree::refused_text(number), room);
+        for _ in 0..200 {
+            let (file, number) = files::refused_policy(random);
+            for room in 0..30 {
+                asked.text(form, &file, &tree::refused_text(number), room);
+            }
         }
     }
     asked.report()
+}
+
+pub fn groups(random: &mut Random, counts: &mut Counts) -> Vec<bool> {
+    vec![
+        by_hand(counts),
+        tried_every_order(random, counts),
+        tried_shapes(random, counts),
+        every_tree_file(random, counts),
+        larger(random, counts),
+        tree_files(random, counts),
+        rooms(random, counts),
+        refused(random, counts),
+    ]
 }

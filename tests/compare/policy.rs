@@ -1,4 +1,5 @@
-//! The policy file of document 01, read a second time: records, refusals 1 to 10, and the order.
+//! The policy file of document 01, read a second time: records, refusals 1 to 10, how far a file is read, and
+//! the order.
 
 pub const MOST_LABELS: usize = 64;
 pub const MOST_PAIRS: usize = 512;
@@ -22,29 +23,8 @@ pub fn read(file: &[u8]) -> Result<Policy, u8> {
     if file.is_empty() {
         return Err(1);
     }
-    let mut policy = Policy {
-        names: Vec::with_capacity(MOST_LABELS),
-        counts: Vec::with_capacity(MOST_LABELS),
-        pairs: Vec::with_capacity(MOST_PAIRS),
-    };
-    let mut rest = file;
-    while !rest.is_empty() {
-        let length = match rest.get(0..2) {
-            Some(b"LB") => 12,
-            Some(b"OV") => 4,
-            _ => return Err(2),
-        };
-        if rest.len() < length {
-            return Err(3);
-        }
-        let (record, after) = rest.split_at(length);
-        if length == 12 {
-            read_label(&mut policy, record)?;
-        } else {
-            read_pair(&mut policy, record)?;
-        }
-        rest = after;
-    }
+    let mut policy = Policy::empty();
+    policy.read_records(file)?;
     let mut lower = [false; MOST_LABELS];
     for pair in &policy.pairs {
         lower[pair.1 as usize] = true;
@@ -55,41 +35,78 @@ pub fn read(file: &[u8]) -> Result<Policy, u8> {
     Ok(policy)
 }
 
-fn read_label(policy: &mut Policy, record: &[u8]) -> Result<(), u8> {
-    let name: [u8; 8] = record[2..10].try_into().unwrap();
-    if !policy.pairs.is_empty() {
-        return Err(4);
-    }
-    if policy.names.len() == MOST_LABELS {
-        return Err(5);
-    }
-    if !well_formed(&name) {
-        return Err(6);
-    }
-    if policy.names.contains(&name) {
-        return Err(7);
-    }
-    policy.names.push(name);
-    policy.counts.push(u16::from_be_bytes([record[10], record[11]]));
-    Ok(())
-}
-
-fn read_pair(policy: &mut Policy, record: &[u8]) -> Result<(), u8> {
-    let (upper, lower) = (record[2], record[3]);
-    if policy.pairs.len() == MOST_PAIRS {
-        return Err(5);
-    }
-    if upper.max(lower) as usize >= policy.names.len() {
-        return Err(8);
-    }
-    if upper >= lower {
-        return Err(9);
-    }
-    policy.pairs.push((upper, lower));
-    Ok(())
+/// How many records are read before the file's end or its first refused record.
+pub fn records_read(file: &[u8]) -> usize {
+    let mut policy = Policy::empty();
+    let _ = policy.read_records(file);
+    policy.names.len() + policy.pairs.len()
 }
 
 impl Policy {
+    fn empty() -> Policy {
+        Policy {
+            names: Vec::with_capacity(MOST_LABELS),
+            counts: Vec::with_capacity(MOST_LABELS),
+            pairs: Vec::with_capacity(MOST_PAIRS),
+        }
+    }
+
+    /// Adds the records up to the end of the bytes, or to the first that is refused.
+    fn read_records(&mut self, mut rest: &[u8]) -> Result<(), u8> {
+        while !rest.is_empty() {
+            let length = match rest.get(0..2) {
+                Some(b"LB") => 12,
+                Some(b"OV") => 4,
+                _ => return Err(2),
+            };
+            if rest.len() < length {
+                return Err(3);
+            }
+            let (record, after) = rest.split_at(length);
+            if length == 12 {
+                self.read_label(record)?;
+            } else {
+                self.read_pair(record)?;
+            }
+            rest = after;
+        }
+        Ok(())
+    }
+
+    fn read_label(&mut self, record: &[u8]) -> Result<(), u8> {
+        let name: [u8; 8] = record[2..10].try_into().unwrap();
+        if !self.pairs.is_empty() {
+            return Err(4);
+        }
+        if self.names.len() == MOST_LABELS {
+            return Err(5);
+        }
+        if !well_formed(&name) {
+            return Err(6);
+        }
+        if self.names.contains(&name) {
+            return Err(7);
+        }
+        self.names.push(name);
+        self.counts.push(u16::from_be_bytes([record[10], record[11]]));
+        Ok(())
+    }
+
+    fn read_pair(&mut self, record: &[u8]) -> Result<(), u8> {
+        let (upper, lower) = (record[2], record[3]);
+        if self.pairs.len() == MOST_PAIRS {
+            return Err(5);
+        }
+        if upper.max(lower) as usize >= self.names.len() {
+            return Err(8);
+        }
+        if upper >= lower {
+            return Err(9);
+        }
+        self.pairs.push((upper, lower));
+        Ok(())
+    }
+
     /// The file that holds this policy.
     pub fn to_bytes(&self) -> Vec<u8> {
         let mut file = Vec::new();

@@ -44,6 +44,24 @@ pub fn made_up(random: &mut Random, records: usize) -> Envelope {
     envelope
 }
 
+/// 64 records each below the one before, and now and then a 65th with nothing wrong in it or something.
+pub fn full(random: &mut Random) -> Envelope {
+    let mut envelope = made_up(random, 65);
+    for place in 1..65 {
+        envelope.records[place].source = Source::Parent(place as u8 - 1);
+    }
+    let first = envelope.records[0].name;
+    let last = &mut envelope.records[64];
+    match random.below(12) {
+        0 => (),
+        1 => last.name = *b"one more",
+        2 => last.name = first,
+        3 => last.source = Source::Parent(random.byte()),
+        _ => envelope.records.truncate(64),
+    }
+    envelope
+}
+
 /// An envelope of any kind, small ones more often, now and then with up to 70 records.
 pub fn any(random: &mut Random, hash: &Sha256) -> Envelope {
     let most = random.choose(&[4, 8, 20, 64]);

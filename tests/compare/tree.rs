@@ -1,5 +1,5 @@
 //! Trees over a policy, from document 01: the order by search, weights, the plan, smallest sets, totals, tree
-//! files with their refusals, and the plan's text.
+//! files with their refusals, the plan's text and its drawing.
 
 use crate::policy::{self, Policy};
 
@@ -118,20 +118,51 @@ impl<'a> Planned<'a> {
         Ok((total, total == self.plan.total))
     }
 
+    /// A label's name without padding.
+    fn name(&self, label: usize) -> &str {
+        std::str::from_utf8(&self.policy.names[label]).unwrap().trim_end()
+    }
+
+    /// A label's name, its parent's unless it is the top, accounts, weight and keys.
+    fn row(&self, label: usize) -> (&str, Option<&str>, u16, u32, u8) {
+        let Plan { parents, weights, sizes, .. } = &self.plan;
+        let parent = (label > 0).then(|| self.name(parents[label] as usize));
+        (self.name(label), parent, self.policy.counts[label], weights[label], sizes[label])
+    }
+
     pub fn text(&self) -> Vec<u8> {
-        let name = |l: usize| std::str::from_utf8(&self.policy.names[l]).unwrap().trim_end();
         let mut text = String::new();
-        for m in 0..self.labels() {
-            let parent = if m == 0 { "-" } else { name(self.plan.parents[m] as usize) };
-            let (weight, size) = (self.plan.weights[m], self.plan.sizes[m]);
-            text += &format!("{} {parent} {weight} {size} {}\n", name(m), self.policy.counts[m]);
+        for label in 0..self.labels() {
+            let (name, parent, accounts, weight, keys) = self.row(label);
+            text += &format!("{name} {} {weight} {keys} {accounts}\n", parent.unwrap_or("-"));
         }
         text += &format!("TOTAL {}\n", self.plan.total);
+        text.into_bytes()
+    }
+
+    /// The plan as a graph for Graphviz: a node for each label, and the edge to it from its parent.
+    pub fn dot(&self) -> Vec<u8> {
+        let mut text = String::from("digraph plan {\n  node [shape=box];\n");
+        for label in 0..self.labels() {
+            let (name, parent, accounts, weight, keys) = self.row(label);
+            let lines = format!("{name}\\naccounts {accounts}\\nweight {weight}\\nkeys {keys}");
+            text += &format!("  \"{name}\" [label=\"{lines}\"];\n");
+            if let Some(parent) = parent {
+                text += &format!("  \"{parent}\" -> \"{name}\";\n");
+            }
+        }
+        text += &format!("  label=\"TOTAL {}\";\n}}\n", self.plan.total);
         text.into_bytes()
     }
 }
 
 /// The operations on files: a refusal of the policy comes first.
+pub fn order(file: &[u8]) -> Result<[[bool; 64]; 64], u8> {
+    let below = search(&policy::read(file)?);
+    let is = |lower: usize, upper: usize| below.get(upper).is_some_and(|row| row.get(lower) == Some(&true));
+    Ok(std::array::from_fn(|lower| std::array::from_fn(|upper| is(lower, upper))))
+}
+
 pub fn plan(file: &[u8]) -> Result<Plan, u8> {
     policy::read(file).map(|policy| Planned::new(&policy).plan)
 }
@@ -141,10 +172,11 @@ pub fn weigh(file: &[u8], tree: &[u8]) -> Result<(u32, bool), u8> {
 }
 
 pub fn text(file: &[u8]) -> Vec<u8> {
-    match policy::read(file) {
-        Ok(policy) => Planned::new(&policy).text(),
-        Err(number) => refused_text(number),
-    }
+    policy::read(file).map_or_else(refused_text, |policy| Planned::new(&policy).text())
+}
+
+pub fn dot(file: &[u8]) -> Vec<u8> {
+    policy::read(file).map_or_else(refused_text, |policy| Planned::new(&policy).dot())
 }
 
 pub fn refused_text(number: u8) -> Vec<u8> {

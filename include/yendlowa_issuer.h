@@ -1,0 +1,205 @@
+/*
+ * The issuer's side of Yendlowa: policies read, planned and weighed, the issuer's keys, and envelopes written. Link with
+ * libyendlowa-issuer.a. The archive is for x86-64 Linux.
+ *
+ * No function allocates, keeps anything between calls or does input or output, so any number of threads may call them at
+ * once. Every function may be called with any bytes. A byte array is passed as a pointer to it and its length; the pointer may
+ * be null when the length is 0, and only then. Answers are returned by value; the bytes passed are not changed. 64 kB of stack
+ * suffice for any call. Secrets pass over that stack and are not wiped from it.
+ *
+ * Three functions write into a buffer that the caller lends (`out`): all that is to be written, from the buffer's start on,
+ * or nothing at all. A buffer that is too short, or null with length 0, is refused under 16 and unchanged; no byte behind what
+ * is written, and none behind the buffer, is touched. A lent buffer must not overlap the other arrays passed in that call.
+ *
+ * A policy file has at most 64 labels and 512 pairs: LB, name (8 bytes), accounts (2 bytes, most significant first) for each
+ * label, then OV, upper label's number, lower label's number (1 byte each) for each pair. Labels are numbered from 0 in file
+ * order, and an upper label has the smaller number.
+ *
+ *     yendlowa_written w = yendlowa_issue(policy, policy_length, (const uint8_t *)"CONV32  ", YENDLOWA_NAME, 5,
+ *                                         root, YENDLOWA_KEY, envelope, sizeof envelope);
+ *     if (w.refusal == YENDLOWA_ACCEPTED) fwrite(envelope, 1, w.length, file);
+ */
+#ifndef YENDLOWA_ISSUER_H
+#define YENDLOWA_ISSUER_H
+
+#include <stdbool.h>
+#include <stddef.h>
+#include <stdint.h>
+#include "yendlowa_refusals.h"
+
+#ifdef __cplusplus
+extern "C" {
+#endif
+
+#define YENDLOWA_PAIRS 512         /* the most over-pairs of a policy */
+#define YENDLOWA_TEXT_ROOM 4096    /* no plan's text has more bytes */
+#define YENDLOWA_DRAWING_ROOM 8192 /* no plan's drawing has more bytes */
+
+/* What a function that writes into a lent buffer answers. */
+typedef struct yendlowa_written {
+    uint8_t refusal;
+    size_t length; /* how many bytes were written, from the buffer's start on */
+} yendlowa_written;
+
+/* ---- policies ---- */
+
+/* One OV record: label `lower` stands below label `upper`. */
+typedef struct yendlowa_pair {
+    uint8_t upper;
+    uint8_t lower;
+} yendlowa_pair;
+
+typedef struct yendlowa_policy {
+    uint8_t refusal;
+    size_t labels;                      /* 1 to 64 */
+    size_t pairs;                       /* 0 to 512 */
+    uint16_t counts[YENDLOWA_LABELS];   /* each label's accounts; zeros behind the last */
+    yendlowa_pair over[YENDLOWA_PAIRS]; /* in file order; zeros behind the last */
+} yendlowa_policy;
+
+/*
+ * What a policy file says. Names stay in the file: that of label i is the 8 bytes from policy + 12 * i + 2 on.
+ *
+ * Takes    a policy file.
+ * Gives    its labels' accounts and its pairs.
+ * Refuses  1; then at each record from the first on 2, 3, 4, 5, 6, 7 for LB, 2, 3, 5, 8, 9 for OV; at the end 10.
+ */
+yendlowa_policy yendlowa_read_policy(const uint8_t *policy, size_t policy_length);
+
+/*
+ * How many records of a policy file pass before its end or its first refused record.
+ *
+ * Takes    a policy file, refused or not.
+ * Gives    the number: for a file refused under 2 to 9 the number of the refused record, counted from 0; else that of all its
+ *          labels and pairs. Never more than 576.
+ */
+size_t yendlowa_policy_records(const uint8_t *policy, size_t policy_length);
+
+typedef struct yendlowa_rows {
+    uint8_t refusal;
+    bool rows[YENDLOWA_LABELS][YENDLOWA_LABELS]; /* rows[m][l]: label m is at or below label l; no past the last label */
+} yendlowa_rows;
+
+/*
+ * The order of a policy's labels: m is at or below l when they are the same or a chain of pairs leads from l down to m.
+ *
+ * Takes    a policy file.
+ * Gives    the table of all pairs of labels.
+ * Refuses  as `yendlowa_read_policy`.
+ */
+yendlowa_rows yendlowa_order(const uint8_t *policy, size_t policy_length);
+
+/* ---- plans ---- */
+
+typedef struct yendlowa_planned {
+    uint8_t refusal;
+    size_t labels;                     /* 1 to 64 */
+    uint8_t parents[YENDLOWA_LABELS];  /* each label's parent, the top's 0; zeros behind the last label, here and below */
+    uint32_t weights[YENDLOWA_LABELS]; /* the parent's weight for the label; for the top its accounts */
+    uint8_t sizes[YENDLOWA_LABELS];    /* how many keys an account at the label holds */
+    uint32_t total;                    /* the keys that are issued to all accounts; no tree of the policy needs fewer */
+} yendlowa_planned;
+
+/*
+ * The plan of a policy: the derivation tree that issues the fewest keys. "TR" and the first `labels` bytes of `parents` are a
+ * tree file that `yendlowa_weigh` takes.
+ *
+ * Takes    a policy file.
+ * Gives    the plan.
+ * Refuses  as `yendlowa_read_policy`.
+ */
+yendlowa_planned yendlowa_plan(const uint8_t *policy, size_t policy_length);
+
+typedef struct yendlowa_weighed {
+    uint8_t refusal;
+    uint32_t total; /* the keys that the tree issues to all accounts */
+    bool least;     /* whether no tree of the policy needs fewer */
+} yendlowa_weighed;
+
+/*
+ * A tree offered by someone else.
+ *
+ * Takes    a policy file, and a tree file: TR, then one byte for each label, its parent's number; the top's byte is 0.
+ * Gives    the tree's total, and whether it is the least.
+ * Refuses  as `yendlowa_read_policy`; then 2, 11, 12 for the tree file.
+ */
+yendlowa_weighed yendlowa_weigh(const uint8_t *policy, size_t policy_length, const uint8_t *tree, size_t tree_length);
+
+/*
+ * The plan as text: a line for each label and one with the total, as the program `plan` prints it. The text of a refused
+ * policy is the line REFUSED and the number, and no refusal here. No null byte is written behind the text.
+ *
+ * Takes    a policy file, and a buffer; YENDLOWA_TEXT_ROOM bytes always suffice.
+ * Gives    the length of the text, which stands in the buffer from its start on.
+ * Refuses  16.
+ */
+yendlowa_written yendlowa_plan_text(const uint8_t *policy, size_t policy_length, uint8_t *out, size_t out_length);
+
+/*
+ * The plan as a drawing in the language of Graphviz' dot. The drawing of a refused policy is the line REFUSED and the number,
+ * and no refusal here. No null byte is written behind the drawing.
+ *
+ * Takes    a policy file, and a buffer; YENDLOWA_DRAWING_ROOM bytes always suffice.
+ * Gives    the length of the drawing, which stands in the buffer from its start on.
+ * Refuses  16.
+ */
+yendlowa_written yendlowa_plan_dot(const uint8_t *policy, size_t policy_length, uint8_t *out, size_t out_length);
+
+/* ---- keys and envelopes ---- */
+
+typedef struct yendlowa_label_key {
+    uint8_t refusal;
+    uint8_t key[YENDLOWA_KEY];
+} yendlowa_label_key;
+
+/*
+ * The issuer's key of a label, the same that `yendlowa_derive` gives at every desk that may open it.
+ *
+ * Takes    a policy file, the label's name (8 bytes, padded with spaces), and the root secret (32 bytes).
+ * Gives    the key.
+ * Refuses  as `yendlowa_read_policy`; then 13, 15.
+ */
+yendlowa_label_key yendlowa_issuer_key(const uint8_t *policy, size_t policy_length, const uint8_t *name, size_t name_length,
+                                       const uint8_t *root, size_t root_length);
+
+/*
+ * The key envelope of an account.
+ *
+ * Takes    a policy file, the name of the account's label (8 bytes, padded with spaces), the account's number (1 to the label's
+ *          accounts), the root secret (32 bytes), and a buffer; YENDLOWA_ENVELOPE_ROOM bytes always suffice.
+ * Gives    the length of the envelope, which stands in the buffer from its start on.
+ * Refuses  as `yendlowa_read_policy`; then 13, 14, 15, 16.
+ */
+yendlowa_written yendlowa_issue(const uint8_t *policy, size_t policy_length, const uint8_t *name, size_t name_length,
+                                uint32_t account, const uint8_t *root, size_t root_length, uint8_t *out, size_t out_length);
+
+/* ---- hash ---- */
+
+typedef struct yendlowa_digest {
+    uint8_t refusal;
+    uint8_t bytes[YENDLOWA_KEY];
+} yendlowa_digest;
+
+/*
+ * SHA-256 (FIPS 180-4).
+ *
+ * Takes    a message of up to 65,536 bytes.
+ * Gives    its digest.
+ * Refuses  21.
+ */
+yendlowa_digest yendlowa_sha256(const uint8_t *message, size_t message_length);
+
+/*
+ * HMAC-SHA-256 (FIPS 198-1).
+ *
+ * Takes    a key and a message of up to 65,536 bytes each.
+ * Gives    the message's code under the key.
+ * Refuses  21.
+ */
+yendlowa_digest yendlowa_hmac_sha256(const uint8_t *key, size_t key_length, const uint8_t *message, size_t message_length);
+
+#ifdef __cplusplus
+}
+#endif
+
+#endif

@@ -1,0 +1,25 @@
+/* The groups of tests, each over every exported function of its part. */
+#ifndef GROUPS_H
+#define GROUPS_H
+
+#include "check.h"
+
+/* policy E of the scope paper, and a root secret */
+#define E "LBSUITE   \0\2" "LBCURVES  \0\3" "LBCONV32  \0\5" "LBACCRUED \0\4" "OV\0\1" "OV\0\2" "OV\1\3" "OV\2\3"
+#define E_NAMES "SUITE   CURVES  CONV32  ACCRUED "
+#define ROOT "\0\1\2\3\4\5\6\7\10\11\12\13\14\15\16\17\20\21\22\23\24\25\26\27\30\31\32\33\34\35\36\37"
+
+/* 64 labels and 512 pairs, with the text of its plan; the drawing of E */
+#define FULL_POLICY "tests/plan/full.policy"
+#define FULL_TEXT "tests/plan/full.txt"
+#define E_DRAWING "crates/plan_dot/stdout"
+
+void hashes(void);
+void policies(void);
+void plans(void);
+void texts(void);
+void issuing(void);
+void deriving(void);
+void threads(void);
+
+#endif

@@ -1,0 +1,20 @@
+/* Every function of both libraries through their headers. Each group is run with inputs and buffers at each side of a page. */
+#include "groups.h"
+
+static void everywhere(const char *name, void (*tests)(void))
+{
+    group(name);
+    for (side = 0; side < SIDES; side++) tests();
+}
+
+int main(void)
+{
+    everywhere("hash and HMAC", hashes);
+    everywhere("policies read, counted and ordered", policies);
+    everywhere("plans and trees weighed", plans);
+    everywhere("texts and drawings, into buffers of every length", texts);
+    everywhere("keys, and envelopes into buffers of every length", issuing);
+    everywhere("envelopes read at the desk", deriving);
+    everywhere("four threads at once", threads);
+    return report();
+}

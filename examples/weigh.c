@@ -18,10 +18,13 @@ int main(int argc, char **argv)
     fclose(file);
 
     yendlowa_written written = yendlowa_plan_text(policy, length, text, sizeof text);
+    if (written.refusal != YENDLOWA_ACCEPTED) {
+        fprintf(stderr, "no plan: refusal %d at record %zu\n", written.refusal, yendlowa_policy_records(policy, length));
+        return 1;
+    }
     fwrite(text, 1, written.length, stdout);
 
     yendlowa_planned plan = yendlowa_plan(policy, length);
-    if (plan.refusal != YENDLOWA_ACCEPTED) return 1;
     yendlowa_weighed flat = yendlowa_weigh(policy, length, tree, 2 + plan.labels);
     printf("all from the top: %u keys%s\n", flat.total, flat.least ? ", no tree needs fewer" : "");
     return 0;

@@ -4,8 +4,9 @@
  *
  * No function allocates, keeps anything between calls or does input or output, so any number of threads may call them at
  * once. Every function may be called with any bytes. A byte array is passed as a pointer to it and its length; the pointer may
- * be null when the length is 0, and only then. Answers are returned by value; the bytes passed are not changed. 64 kB of stack
- * suffice for any call. Secrets pass over that stack and are not wiped from it.
+ * be null when the length is 0, and only then. Answers are returned by value and have no padding: each byte of an answer belongs
+ * to a field, and the call fixes it. The bytes passed are not changed. 64 kB of stack suffice for any call. Secrets pass over that
+ * stack and are not wiped from it.
  *
  *     yendlowa_derived d = yendlowa_derive(envelope, length, (const uint8_t *)"ACCRUED ", YENDLOWA_NAME);
  *     if (d.refusal == YENDLOWA_ACCEPTED) open_module(d.key);
@@ -41,6 +42,7 @@ yendlowa_derived yendlowa_derive(const uint8_t *envelope, size_t envelope_length
 
 typedef struct yendlowa_labels_read {
     uint8_t refusal;
+    uint8_t zeros[5];                              /* always 0 */
     uint16_t account;                              /* the account's number, 1 to 65,535 */
     size_t labels;                                 /* how many names follow, 1 to 64 */
     uint8_t names[YENDLOWA_LABELS][YENDLOWA_NAME]; /* the account's own label first; zeros behind the last */
@@ -56,11 +58,13 @@ typedef struct yendlowa_labels_read {
 yendlowa_labels_read yendlowa_labels(const uint8_t *envelope, size_t envelope_length);
 
 /*
- * How many records of an envelope pass before its end or its first refused record.
+ * Where the reading of an envelope stops: how many of its records pass before its end or its first refused record. It answers
+ * for every envelope, a refused one too, and says nothing of why; that is the refusal of `yendlowa_labels`.
  *
- * Takes    an envelope, refused or not.
+ * Takes    any bytes, as an envelope.
  * Gives    the number: for a refused envelope the number of the refused record, counted from 0; 0 when its header is refused
  *          (17). For an accepted one its number of labels. Never more than 64.
+ * Refuses  nothing.
  */
 size_t yendlowa_envelope_records(const uint8_t *envelope, size_t envelope_length);
 

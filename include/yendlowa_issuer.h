@@ -4,12 +4,14 @@
  *
  * No function allocates, keeps anything between calls or does input or output, so any number of threads may call them at
  * once. Every function may be called with any bytes. A byte array is passed as a pointer to it and its length; the pointer may
- * be null when the length is 0, and only then. Answers are returned by value; the bytes passed are not changed. 64 kB of stack
- * suffice for any call. Secrets pass over that stack and are not wiped from it.
+ * be null when the length is 0, and only then. Answers are returned by value and have no padding: each byte of an answer belongs
+ * to a field, and the call fixes it. The bytes passed are not changed. 64 kB of stack suffice for any call. Secrets pass over that
+ * stack and are not wiped from it.
  *
  * Three functions write into a buffer that the caller lends (`out`): all that is to be written, from the buffer's start on,
- * or nothing at all. A buffer that is too short, or null with length 0, is refused under 16 and unchanged; no byte behind what
- * is written, and none behind the buffer, is touched. A lent buffer must not overlap the other arrays passed in that call.
+ * or, with a refusal, nothing at all. A buffer that is too short, or null with length 0, is refused under 16, after all that
+ * can be refused of the policy and the rest; no byte behind what is written, and none behind the buffer, is touched. A lent
+ * buffer must not overlap the other arrays passed in that call.
  *
  * A policy file has at most 64 labels and 512 pairs: LB, name (8 bytes), accounts (2 bytes, most significant first) for each
  * label, then OV, upper label's number, lower label's number (1 byte each) for each pair. Labels are numbered from 0 in file
@@ -38,7 +40,8 @@ extern "C" {
 /* What a function that writes into a lent buffer answers. */
 typedef struct yendlowa_written {
     uint8_t refusal;
-    size_t length; /* how many bytes were written, from the buffer's start on */
+    uint8_t zeros[7]; /* always 0 */
+    size_t length;    /* how many bytes were written, from the buffer's start on */
 } yendlowa_written;
 
 /* ---- policies ---- */
@@ -51,6 +54,7 @@ typedef struct yendlowa_pair {
 
 typedef struct yendlowa_policy {
     uint8_t refusal;
+    uint8_t zeros[7];                   /* always 0 */
     size_t labels;                      /* 1 to 64 */
     size_t pairs;                       /* 0 to 512 */
     uint16_t counts[YENDLOWA_LABELS];   /* each label's accounts; zeros behind the last */
@@ -67,11 +71,13 @@ typedef struct yendlowa_policy {
 yendlowa_policy yendlowa_read_policy(const uint8_t *policy, size_t policy_length);
 
 /*
- * How many records of a policy file pass before its end or its first refused record.
+ * Where the reading of a policy file stops: how many of its records pass before its end or its first refused record. It
+ * answers for every file, a refused one too, and says nothing of why; that is the refusal of `yendlowa_read_policy`.
  *
- * Takes    a policy file, refused or not.
- * Gives    the number: for a file refused under 2 to 9 the number of the refused record, counted from 0; else that of all its
- *          labels and pairs. Never more than 576.
+ * Takes    any bytes, as a policy file.
+ * Gives    the number: for a file refused under 2 to 9 the number of the refused record, counted from 0; for one refused under
+ *          1 or 10, or accepted, that of all its records, which is 0 under 1. Never more than 576.
+ * Refuses  nothing.
  */
 size_t yendlowa_policy_records(const uint8_t *policy, size_t policy_length);
 
@@ -93,11 +99,12 @@ yendlowa_rows yendlowa_order(const uint8_t *policy, size_t policy_length);
 
 typedef struct yendlowa_planned {
     uint8_t refusal;
+    uint8_t zeros[3];                  /* always 0 */
+    uint32_t total;                    /* the keys that are issued to all accounts; no tree of the policy needs fewer */
     size_t labels;                     /* 1 to 64 */
     uint8_t parents[YENDLOWA_LABELS];  /* each label's parent, the top's 0; zeros behind the last label, here and below */
     uint32_t weights[YENDLOWA_LABELS]; /* the parent's weight for the label; for the top its accounts */
     uint8_t sizes[YENDLOWA_LABELS];    /* how many keys an account at the label holds */
-    uint32_t total;                    /* the keys that are issued to all accounts; no tree of the policy needs fewer */
 } yendlowa_planned;
 
 /*
@@ -112,8 +119,9 @@ yendlowa_planned yendlowa_plan(const uint8_t *policy, size_t policy_length);
 
 typedef struct yendlowa_weighed {
     uint8_t refusal;
-    uint32_t total; /* the keys that the tree issues to all accounts */
-    bool least;     /* whether no tree of the policy needs fewer */
+    bool least;       /* whether no tree of the policy needs fewer */
+    uint8_t zeros[2]; /* always 0 */
+    uint32_t total;   /* the keys that the tree issues to all accounts */
 } yendlowa_weighed;
 
 /*
@@ -126,22 +134,21 @@ typedef struct yendlowa_weighed {
 yendlowa_weighed yendlowa_weigh(const uint8_t *policy, size_t policy_length, const uint8_t *tree, size_t tree_length);
 
 /*
- * The plan as text: a line for each label and one with the total, as the program `plan` prints it. The text of a refused
- * policy is the line REFUSED and the number, and no refusal here. No null byte is written behind the text.
+ * The plan as text: a line for each label and one with the total, as the program `plan` prints it. No null byte is written
+ * behind the text. The line REFUSED that the program prints for a refused policy is not written here.
  *
  * Takes    a policy file, and a buffer; YENDLOWA_TEXT_ROOM bytes always suffice.
  * Gives    the length of the text, which stands in the buffer from its start on.
- * Refuses  16.
+ * Refuses  as `yendlowa_read_policy`; then 16.
  */
 yendlowa_written yendlowa_plan_text(const uint8_t *policy, size_t policy_length, uint8_t *out, size_t out_length);
 
 /*
- * The plan as a drawing in the language of Graphviz' dot. The drawing of a refused policy is the line REFUSED and the number,
- * and no refusal here. No null byte is written behind the drawing.
+ * The plan as a drawing in the language of Graphviz' dot. No null byte is written behind the drawing.
  *
  * Takes    a policy file, and a buffer; YENDLOWA_DRAWING_ROOM bytes always suffice.
  * Gives    the length of the drawing, which stands in the buffer from its start on.
- * Refuses  16.
+ * Refuses  as `yendlowa_read_policy`; then 16.
  */
 yendlowa_written yendlowa_plan_dot(const uint8_t *policy, size_t policy_length, uint8_t *out, size_t out_length);
 

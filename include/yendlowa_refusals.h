@@ -2,7 +2,10 @@
  * What both libraries of Yendlowa share: sizes, and the numbers that a call is refused under.
  *
  * Every answer that can be refused starts with the number, 0 when nothing is refused. Beside a refusal every other number of
- * the answer is 0, a yes or no is no, a key or digest is all zeros, and a buffer that was lent is unchanged.
+ * the answer is 0, a yes or no is no, a key or digest is all zeros, and a buffer that was lent is unchanged. The two functions
+ * that answer where reading stops (`yendlowa_policy_records`, `yendlowa_envelope_records`) refuse nothing.
+ *
+ * No answer has padding. Where the fields alone would leave a gap, a field `zeros` fills it, and its bytes are always 0.
  *
  * Each function says which numbers it gives and in which order it asks: the first check that fails is answered.
  */

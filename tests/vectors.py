@@ -1,11 +1,12 @@
 #!/usr/bin/env python3
-"""Prints what the program `vectors` has to write, from sources that know nothing of the project: the digests
+"""Makes what the program `vectors` reads and what it has to write, from sources that know nothing of the project: the digests
 that FIPS 180-4's examples and RFC 4231 give, Python's hashlib and hmac for the other messages, and document 01.
 
-python3 tests/vectors.py > crates/vectors/stdout
+python3 tests/vectors.py    writes crates/vectors/stdin and crates/vectors/stdout
 """
 import hashlib
 import hmac
+import pathlib
 
 # The standards' own values; hashlib has to agree with each.
 GIVEN = {
@@ -24,20 +25,41 @@ GIVEN = {
 
 LIMIT = 65_536
 
+# The operations, as the program numbers them.
+DIGEST, MAC, POLICY, PLAN, TREE, KEY, ENVELOPE, DERIVED = range(8)
 
-def line(name, value):
-    if name in GIVEN and GIVEN[name] != value:
-        raise SystemExit(f"{name}: {value} is not what the standard gives")
-    print(f"{name}: {value}")
+cases = []
+answers = []
+
+
+def number(n):
+    return n.to_bytes(2, "big")
+
+
+def data(content):
+    """A file: how many bytes are given, how many a's follow them, and the bytes given."""
+    given = content[: max(len(content.rstrip(b"a")), len(content) - 65_535)]
+    return number(len(given)) + number(len(content) - len(given)) + given
+
+
+def case(name, operation, answer, files, counted=0):
+    """A case: its name, the operation, a number and four files, and the line that has to come of it."""
+    if name in GIVEN and GIVEN[name] != answer:
+        raise SystemExit(f"{name}: {answer} is not what the standard gives")
+    taken = [data(content) for content in (*files, b"", b"", b"")[:4]]
+    cases.append(data(name.encode()) + number(operation) + number(counted) + b"".join(taken))
+    answers.append(f"{name}: {answer}\n")
 
 
 def sha(name, message):
-    line(name, hashlib.sha256(message).hexdigest() if len(message) <= LIMIT else "REFUSED 21")
+    answer = hashlib.sha256(message).hexdigest() if len(message) <= LIMIT else "REFUSED 21"
+    case(name, DIGEST, answer, (message,), 32)
 
 
-def mac(name, key, message, digits=64):
+def mac(name, key, message, shown=32):
     refused = len(key) > LIMIT or len(message) > LIMIT
-    line(name, "REFUSED 21" if refused else hmac.new(key, message, "sha256").hexdigest()[:digits])
+    answer = "REFUSED 21" if refused else hmac.new(key, message, "sha256").digest()[:shown].hex()
+    case(name, MAC, answer, (key, message), shown)
 
 
 sha("sha256 of nothing", b"")
@@ -55,7 +77,7 @@ mac("RFC 4231 case 1", b"\x0b" * 20, b"Hi There")
 mac("RFC 4231 case 2", b"Jefe", b"what do ya want for nothing?")
 mac("RFC 4231 case 3", b"\xaa" * 20, b"\xdd" * 50)
 mac("RFC 4231 case 4", bytes(range(1, 26)), b"\xcd" * 50)
-mac("RFC 4231 case 5, 128 bits", b"\x0c" * 20, b"Test With Truncation", 32)
+mac("RFC 4231 case 5, 128 bits", b"\x0c" * 20, b"Test With Truncation", 16)
 mac("RFC 4231 case 6", b"\xaa" * 131, b"Test Using Larger Than Block-Size Key - Hash Key First")
 mac(
     "RFC 4231 case 7",
@@ -68,38 +90,66 @@ mac("hmac of 65537 a", b"key", b"a" * (LIMIT + 1))
 mac("hmac with a key of 65536 a", b"a" * LIMIT, b"message")
 mac("hmac with a key of 65537 a", b"a" * (LIMIT + 1), b"message")
 
-# Document 01, "Checked by hand", and its limits.
-for name, answer in (
-    ("empty policy", "REFUSED 1"),
-    ("one label", "1 labels, 0 pairs"),
-    ("one label, cut", "REFUSED 3"),
-    ("E", "4 labels, 4 pairs"),
-    ("E without its last two pairs", "REFUSED 10"),
-    ("E with the pair 3-3", "REFUSED 9"),
-    ("E with the pair 3-4", "REFUSED 8"),
-    ("64 labels, each paired below the top", "64 labels, 63 pairs"),
-    ("65 labels, each paired below the top", "REFUSED 5"),
-    ("64 labels and 512 pairs", "64 labels, 512 pairs"),
-    ("64 labels and 513 pairs", "REFUSED 5"),
-    # for each label its parent, weight and set size
-    ("plan of an empty policy", "REFUSED 1"),
-    ("plan of one label", "0 7 1, total 7"),
-    ("plan of E", "0 2 1, 0 3 2, 0 5 1, 2 7 1, total 17"),
-    ("plan of the chain A 1, B 0, C 4", "0 1 1, 0 0 2, 0 4 1, total 5"),
-    ("E under 0,0,0,2", "17, least"),
-    ("E under 0,0,0,1", "19, not least"),
-    ("E under 0,0,0,0", "22, not least"),
-    ("E under 0,0,1,2", "REFUSED 12"),
-    ("E under 0,0,0,3, its own parent", "REFUSED 12"),
-    ("E under 1,0,0,2, the top's byte", "REFUSED 12"),
-    ("E, three bytes after TR", "REFUSED 11"),
-    ("E, five bytes after TR, one wrong", "REFUSED 11"),
-    ("E, another mark", "REFUSED 2"),
-    ("E, one byte", "REFUSED 2"),
-    ("E, an empty tree file", "REFUSED 2"),
-    ("an empty policy and an empty tree file", "REFUSED 1"),
+# Policies of document 01, "Checked by hand".
+def label(name, accounts):
+    return b"LB" + name.encode().ljust(8) + number(accounts)
+
+
+def over(upper, lower):
+    return b"OV" + bytes([upper, lower])
+
+
+ONE = label("SUITE", 7)
+LABELS = label("SUITE", 2) + label("CURVES", 3) + label("CONV32", 5) + label("ACCRUED", 4)
+E = LABELS + over(0, 1) + over(0, 2) + over(1, 3) + over(2, 3)
+CHAIN = label("A", 1) + label("B", 0) + label("C", 4) + over(0, 1) + over(1, 2)
+
+
+def wide(labels, pairs):
+    """So many labels, with pairs from label 0 down to each of the others in turn."""
+    records = [label(f"L{i:02}", 1) for i in range(labels)] + [over(0, 1 + i % 63) for i in range(pairs)]
+    return b"".join(records)
+
+
+for name, policy, answer in (
+    ("empty policy", b"", "REFUSED 1"),
+    ("one label", ONE, "1 labels, 0 pairs"),
+    ("one label, cut", ONE[:-1], "REFUSED 3"),
+    ("E", E, "4 labels, 4 pairs"),
+    ("E without its last two pairs", E[:-8], "REFUSED 10"),
+    ("E with the pair 3-3", E + over(3, 3), "REFUSED 9"),
+    ("E with the pair 3-4", E + over(3, 4), "REFUSED 8"),
+    ("64 labels, each paired below the top", wide(64, 63), "64 labels, 63 pairs"),
+    ("65 labels, each paired below the top", wide(65, 64), "REFUSED 5"),
+    ("64 labels and 512 pairs", wide(64, 512), "64 labels, 512 pairs"),
+    ("64 labels and 513 pairs", wide(64, 513), "REFUSED 5"),
 ):
-    line(name, answer)
+    case(name, POLICY, answer, (policy,))
+
+# For each label its parent, weight and set size.
+for name, policy, answer in (
+    ("plan of an empty policy", b"", "REFUSED 1"),
+    ("plan of one label", ONE, "0 7 1, total 7"),
+    ("plan of E", E, "0 2 1, 0 3 2, 0 5 1, 2 7 1, total 17"),
+    ("plan of the chain A 1, B 0, C 4", CHAIN, "0 1 1, 0 0 2, 0 4 1, total 5"),
+):
+    case(name, PLAN, answer, (policy,))
+
+for name, policy, tree, answer in (
+    ("E under 0,0,0,2", E, b"TR\0\0\0\2", "17, least"),
+    ("E under 0,0,0,1", E, b"TR\0\0\0\1", "19, not least"),
+    ("E under 0,0,0,0", E, b"TR\0\0\0\0", "22, not least"),
+    ("E under 0,0,1,2", E, b"TR\0\0\1\2", "REFUSED 12"),
+    ("E under 0,0,0,3, its own parent", E, b"TR\0\0\0\3", "REFUSED 12"),
+    ("E under 1,0,0,2, the top's byte", E, b"TR\1\0\0\2", "REFUSED 12"),
+    ("E, three bytes after TR", E, b"TR\0\0\0", "REFUSED 11"),
+    ("E, five bytes after TR, one wrong", E, b"TR\0\0\1\2\0", "REFUSED 11"),
+    ("E, another mark", E, b"OV\0\0\0\2", "REFUSED 2"),
+    ("E, one byte", E, b"T", "REFUSED 2"),
+    ("E, an empty tree file", E, b"", "REFUSED 2"),
+    ("an empty policy and an empty tree file", b"", b"", "REFUSED 1"),
+):
+    case(name, TREE, answer, (policy, tree))
 
 # Keys and envelopes of document 01's policy E, whose tree it gives, with the root secret 0, 1, .. 31.
 NAMES = ("SUITE", "CURVES", "CONV32", "ACCRUED")
@@ -143,36 +193,46 @@ def applications(label, name):
     return 1 if name in held(label) else 1 + applications(label, PARENTS[name])
 
 
-def issued(label, account, length, secrets):
+def issued(label, account, length, secrets, room):
     """An envelope, whose length document 01 gives for most labels, and the number of its secrets for one."""
     made = envelope(label, account)
     if (len(made), len(held(label))) != (length, secrets):
         raise SystemExit(f"{label}: {len(made)} bytes, {len(held(label))} secrets; document 01 has {length}, {secrets}")
-    line(f"E, {label}, account {account}", f"{length} bytes, {made.hex()}")
+    answer = f"{length} bytes, {made.hex()}"
+    case(f"E, {label}, account {account}", ENVELOPE, answer, (E, padded(label), ROOT, bytes(room)), account)
 
 
 def derived(name, label, count):
     """A name from a label's envelope, with the applications that document 01 gives for most."""
     if applications(label, name) != count:
         raise SystemExit(f"{name} from {label}: {applications(label, name)} applications, and document 01 has {count}")
-    line(f"{name} from {label}", f"{count} applications, {key_of(name).hex()}")
+    answer = f"{count} applications, {key_of(name).hex()}"
+    case(f"{name} from {label}", DERIVED, answer, (envelope(label, 1), padded(name)))
 
 
 for name in NAMES:
-    line(f"key of {name}", key_of(name).hex())
-line("key of RATES", "REFUSED 13")
-line("key of SUITE in 5 bytes", "REFUSED 13")
-line("key of SUITE, root of 31 bytes", "REFUSED 15")
-line("key of RATES, root of 31 bytes", "REFUSED 13")
-line("key, an empty policy", "REFUSED 1")
-issued("CONV32", 5, 65, 1)
-issued("CURVES", 3, 96, 2)
-issued("SUITE", 2, 87, 1)
-issued("ACCRUED", 1, 54, 1)
-line("E, CONV32, account 5, 64 bytes", "REFUSED 16")
-line("E, CONV32, account 6", "REFUSED 14")
-line("E, CONV32, account 0", "REFUSED 14")
-line("E, RATES, account 0, no buffer", "REFUSED 13")
+    case(f"key of {name}", KEY, key_of(name).hex(), (E, padded(name), ROOT))
+for name, policy, asked, root, answer in (
+    ("key of RATES", E, padded("RATES"), ROOT, "REFUSED 13"),
+    ("key of SUITE in 5 bytes", E, b"SUITE", ROOT, "REFUSED 13"),
+    ("key of SUITE, root of 31 bytes", E, padded("SUITE"), bytes(31), "REFUSED 15"),
+    ("key of RATES, root of 31 bytes", E, padded("RATES"), bytes(31), "REFUSED 13"),
+    ("key, an empty policy", b"", b"", b"", "REFUSED 1"),
+):
+    case(name, KEY, answer, (policy, asked, root))
+
+issued("CONV32", 5, 65, 1, room=65)
+issued("CURVES", 3, 96, 2, room=100)
+issued("SUITE", 2, 87, 1, room=128)
+issued("ACCRUED", 1, 54, 1, room=54)
+for name, asked, account, room, answer in (
+    ("E, CONV32, account 5, 64 bytes", "CONV32", 5, 64, "REFUSED 16"),
+    ("E, CONV32, account 6", "CONV32", 6, 65, "REFUSED 14"),
+    ("E, CONV32, account 0", "CONV32", 0, 65, "REFUSED 14"),
+    ("E, RATES, account 0, no buffer", "RATES", 0, 0, "REFUSED 13"),
+):
+    case(name, ENVELOPE, answer, (E, padded(asked), ROOT, bytes(room)), account)
+
 derived("SUITE", "SUITE", 1)
 derived("CURVES", "SUITE", 2)
 derived("CONV32", "SUITE", 2)
@@ -180,8 +240,15 @@ derived("ACCRUED", "SUITE", 3)
 derived("CONV32", "CONV32", 1)
 derived("ACCRUED", "CONV32", 2)
 derived("ACCRUED", "CURVES", 1)
-line("CURVES from CONV32", "REFUSED 20")
-line("CONV32 from CONV32 in 6 bytes", "REFUSED 20")
-line("a bare header", "REFUSED 18")
-line("11 bytes", "REFUSED 17")
-line("a header with account 0", "REFUSED 17")
+for name, file, asked, answer in (
+    ("CURVES from CONV32", envelope("CONV32", 1), padded("CURVES"), "REFUSED 20"),
+    ("CONV32 from CONV32 in 6 bytes", envelope("CONV32", 1), b"CONV32", "REFUSED 20"),
+    ("a bare header", b"EN\0\1CONV32  ", padded("CONV32"), "REFUSED 18"),
+    ("11 bytes", b"EN\0\1CONV32 ", padded("CONV32"), "REFUSED 17"),
+    ("a header with account 0", b"EN\0\0CONV32  ", padded("CONV32"), "REFUSED 17"),
+):
+    case(name, DERIVED, answer, (file, asked))
+
+program = pathlib.Path(__file__).parent.parent / "crates/vectors"
+(program / "stdin").write_bytes(number(len(cases)) + b"".join(cases))
+(program / "stdout").write_text("".join(answers))

@@ -2,7 +2,7 @@
 //! made by recursion up the tree, each once; nothing is allocated but the policy reader's lists.
 
 use crate::hash::mac;
-use crate::library::{Derived, Issued, IssuerKey, Labels};
+use crate::library::{Derived, IssuerKey, Labels, Written};
 use crate::plan::{self, Policy, Rows};
 
 /// A policy with its order and the plan's parents.
@@ -90,10 +90,10 @@ fn issued(file: &[u8], name: &[u8], account: u32, root: &[u8], envelope: &mut [u
     Ok(length)
 }
 
-pub fn issue(file: &[u8], name: &[u8], account: u32, root: &[u8], envelope: &mut [u8]) -> Issued {
+pub fn issue(file: &[u8], name: &[u8], account: u32, root: &[u8], envelope: &mut [u8]) -> Written {
     match issued(file, name, account, root, envelope) {
-        Ok(length) => Issued { refusal: 0, length },
-        Err(refusal) => Issued { refusal, length: 0 },
+        Ok(length) => Written { refusal: 0, zeros: [0; 7], length },
+        Err(refusal) => Written { refusal, zeros: [0; 7], length: 0 },
     }
 }
 
@@ -208,7 +208,7 @@ pub fn derive(envelope: &[u8], name: &[u8]) -> Derived {
 }
 
 pub fn labels(envelope: &[u8]) -> Labels {
-    let mut answer = Labels { refusal: 0, account: 0, labels: 0, names: [0; 512] };
+    let mut answer = Labels { refusal: 0, zeros: [0; 5], account: 0, labels: 0, names: [0; 512] };
     match Records::read(envelope) {
         Ok(records) => {
             answer.account = u16::from_be_bytes([envelope[2], envelope[3]]);

@@ -43,7 +43,7 @@ pub fn issuer_key(policy: &[u8], name: &[u8], root: &[u8]) -> IssuerKey {
     unsafe { yendlowa_issuer_key(policy, length, name.as_ptr(), name.len(), root.as_ptr(), root.len()) }
 }
 
-pub fn issue(policy: &[u8], name: &[u8], account: u32, root: &[u8], envelope: &mut [u8]) -> Issued {
+pub fn issue(policy: &[u8], name: &[u8], account: u32, root: &[u8], envelope: &mut [u8]) -> Written {
     let (policy, length) = (policy.as_ptr(), policy.len());
     let (name, name_length, root, root_length) = (name.as_ptr(), name.len(), root.as_ptr(), root.len());
     let (into, room) = (envelope.as_mut_ptr(), envelope.len());

@@ -29,7 +29,7 @@ pub fn read(file: &[u8]) -> Result<Policy, u8> {
 
 pub fn read_policy(file: &[u8]) -> library::Policy {
     let (counts, over) = ([0; 64], [Pair { upper: 0, lower: 0 }; 512]);
-    let mut answer = library::Policy { refusal: 0, labels: 0, pairs: 0, counts, over };
+    let mut answer = library::Policy { refusal: 0, zeros: [0; 7], labels: 0, pairs: 0, counts, over };
     match policy::read(file) {
         Ok(read) => {
             (answer.labels, answer.pairs) = (read.names.len(), read.pairs.len());
@@ -117,7 +117,7 @@ fn total(policy: &Policy, sizes: &[u8; 64]) -> u32 {
 }
 
 const NO_PLAN: Plan =
-    Plan { refusal: 0, labels: 0, parents: [0; 64], weights: [0; 64], sizes: [0; 64], total: 0 };
+    Plan { refusal: 0, zeros: [0; 3], total: 0, labels: 0, parents: [0; 64], weights: [0; 64], sizes: [0; 64] };
 
 pub fn plan(file: &[u8]) -> Plan {
     read(file).map_or_else(|refusal| Plan { refusal, ..NO_PLAN }, |policy| planned(&policy))
@@ -162,23 +162,25 @@ fn write_dot(text: &mut String, policy: &Policy, plan: &Plan) -> std::fmt::Resul
     writeln!(text, "  label=\"TOTAL {}\";\n}}", plan.total)
 }
 
-/// Writes a text of the plan, or of the policy's refusal, into the buffer, if it has room for it.
+/// Writes a text of the plan into the buffer, if the policy is not refused and there is room for it.
 fn written(
     file: &[u8],
     out: &mut [u8],
     write: fn(&mut String, &Policy, &Plan) -> std::fmt::Result,
 ) -> Written {
-    let mut text = String::with_capacity(8192);
-    let done = match read(file) {
-        Ok(policy) => write(&mut text, &policy, &planned(&policy)),
-        Err(refusal) => writeln!(text, "REFUSED {refusal}"),
+    let refused = |refusal| Written { refusal, zeros: [0; 7], length: 0 };
+    let policy = match read(file) {
+        Ok(policy) => policy,
+        Err(refusal) => return refused(refusal),
     };
+    let mut text = String::with_capacity(8192);
+    let done = write(&mut text, &policy, &planned(&policy));
     match out.get_mut(..text.len()) {
         Some(start) if done.is_ok() => {
             start.copy_from_slice(text.as_bytes());
-            Written { refusal: 0, length: text.len() }
+            Written { refusal: 0, zeros: [0; 7], length: text.len() }
         }
-        _ => Written { refusal: 16, length: 0 },
+        _ => refused(16),
     }
 }
 
@@ -217,7 +219,7 @@ fn weighed(file: &[u8], tree: &[u8]) -> Result<(u32, bool), u8> {
 
 pub fn weigh(file: &[u8], tree: &[u8]) -> Weighed {
     match weighed(file, tree) {
-        Ok((total, least)) => Weighed { refusal: 0, total, least },
-        Err(refusal) => Weighed { refusal, total: 0, least: false },
+        Ok((total, least)) => Weighed { refusal: 0, least, zeros: [0; 2], total },
+        Err(refusal) => Weighed { refusal, least: false, zeros: [0; 2], total: 0 },
     }
 }

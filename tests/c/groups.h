@@ -20,6 +20,7 @@ void plans(void);
 void texts(void);
 void issuing(void);
 void deriving(void);
+void answers(void);
 void threads(void);
 
 #endif

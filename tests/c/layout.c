@@ -1,62 +1,85 @@
-/* The structs are laid out as the libraries return them: by the rules of C, for x86-64. */
+/*
+ * The structs are laid out as the libraries return them: by the rules of C, for x86-64. None has padding: its first field starts
+ * at 0, each other where the one before it ends, and the last ends with it.
+ */
 #include <yendlowa_desk.h>
 #include <yendlowa_issuer.h>
 
 #define SIZE(type, size) _Static_assert(sizeof(type) == (size), #type)
-#define FIELD(type, field, at) _Static_assert(offsetof(type, field) == (at), #type "." #field)
+
+#define END(type, field) (offsetof(type, field) + sizeof(((type *)0)->field))
+#define FIRST(type, field) _Static_assert(offsetof(type, field) == 0, #type "." #field)
+#define NEXT(type, before, field, at) \
+    _Static_assert(END(type, before) == (at) && offsetof(type, field) == (at), #type "." #field)
+#define LAST(type, field) _Static_assert(END(type, field) == sizeof(type), #type "." #field)
 
 SIZE(size_t, 8);
 SIZE(bool, 1);
 
 SIZE(yendlowa_digest, 33);
-FIELD(yendlowa_digest, refusal, 0);
-FIELD(yendlowa_digest, bytes, 1);
+FIRST(yendlowa_digest, refusal);
+NEXT(yendlowa_digest, refusal, bytes, 1);
+LAST(yendlowa_digest, bytes);
 
 SIZE(yendlowa_pair, 2);
-FIELD(yendlowa_pair, upper, 0);
-FIELD(yendlowa_pair, lower, 1);
+FIRST(yendlowa_pair, upper);
+NEXT(yendlowa_pair, upper, lower, 1);
+LAST(yendlowa_pair, lower);
 
 SIZE(yendlowa_policy, 1176);
-FIELD(yendlowa_policy, refusal, 0);
-FIELD(yendlowa_policy, labels, 8);
-FIELD(yendlowa_policy, pairs, 16);
-FIELD(yendlowa_policy, counts, 24);
-FIELD(yendlowa_policy, over, 152);
+FIRST(yendlowa_policy, refusal);
+NEXT(yendlowa_policy, refusal, zeros, 1);
+NEXT(yendlowa_policy, zeros, labels, 8);
+NEXT(yendlowa_policy, labels, pairs, 16);
+NEXT(yendlowa_policy, pairs, counts, 24);
+NEXT(yendlowa_policy, counts, over, 152);
+LAST(yendlowa_policy, over);
 
 SIZE(yendlowa_rows, 4097);
-FIELD(yendlowa_rows, refusal, 0);
-FIELD(yendlowa_rows, rows, 1);
-FIELD(yendlowa_rows, rows[1][0], 65);
+FIRST(yendlowa_rows, refusal);
+NEXT(yendlowa_rows, refusal, rows, 1);
+NEXT(yendlowa_rows, rows[0], rows[1], 65);
+LAST(yendlowa_rows, rows);
 
-SIZE(yendlowa_planned, 408);
-FIELD(yendlowa_planned, refusal, 0);
-FIELD(yendlowa_planned, labels, 8);
-FIELD(yendlowa_planned, parents, 16);
-FIELD(yendlowa_planned, weights, 80);
-FIELD(yendlowa_planned, sizes, 336);
-FIELD(yendlowa_planned, total, 400);
+SIZE(yendlowa_planned, 400);
+FIRST(yendlowa_planned, refusal);
+NEXT(yendlowa_planned, refusal, zeros, 1);
+NEXT(yendlowa_planned, zeros, total, 4);
+NEXT(yendlowa_planned, total, labels, 8);
+NEXT(yendlowa_planned, labels, parents, 16);
+NEXT(yendlowa_planned, parents, weights, 80);
+NEXT(yendlowa_planned, weights, sizes, 336);
+LAST(yendlowa_planned, sizes);
 
-SIZE(yendlowa_weighed, 12);
-FIELD(yendlowa_weighed, refusal, 0);
-FIELD(yendlowa_weighed, total, 4);
-FIELD(yendlowa_weighed, least, 8);
+SIZE(yendlowa_weighed, 8);
+FIRST(yendlowa_weighed, refusal);
+NEXT(yendlowa_weighed, refusal, least, 1);
+NEXT(yendlowa_weighed, least, zeros, 2);
+NEXT(yendlowa_weighed, zeros, total, 4);
+LAST(yendlowa_weighed, total);
 
 SIZE(yendlowa_written, 16);
-FIELD(yendlowa_written, refusal, 0);
-FIELD(yendlowa_written, length, 8);
+FIRST(yendlowa_written, refusal);
+NEXT(yendlowa_written, refusal, zeros, 1);
+NEXT(yendlowa_written, zeros, length, 8);
+LAST(yendlowa_written, length);
 
 SIZE(yendlowa_label_key, 33);
-FIELD(yendlowa_label_key, refusal, 0);
-FIELD(yendlowa_label_key, key, 1);
+FIRST(yendlowa_label_key, refusal);
+NEXT(yendlowa_label_key, refusal, key, 1);
+LAST(yendlowa_label_key, key);
 
 SIZE(yendlowa_derived, 34);
-FIELD(yendlowa_derived, refusal, 0);
-FIELD(yendlowa_derived, key, 1);
-FIELD(yendlowa_derived, applications, 33);
+FIRST(yendlowa_derived, refusal);
+NEXT(yendlowa_derived, refusal, key, 1);
+NEXT(yendlowa_derived, key, applications, 33);
+LAST(yendlowa_derived, applications);
 
 SIZE(yendlowa_labels_read, 528);
-FIELD(yendlowa_labels_read, refusal, 0);
-FIELD(yendlowa_labels_read, account, 2);
-FIELD(yendlowa_labels_read, labels, 8);
-FIELD(yendlowa_labels_read, names, 16);
-FIELD(yendlowa_labels_read, names[1][0], 24);
+FIRST(yendlowa_labels_read, refusal);
+NEXT(yendlowa_labels_read, refusal, zeros, 1);
+NEXT(yendlowa_labels_read, zeros, account, 6);
+NEXT(yendlowa_labels_read, account, labels, 8);
+NEXT(yendlowa_labels_read, labels, names, 16);
+NEXT(yendlowa_labels_read, names[0], names[1], 24);
+LAST(yendlowa_labels_read, names);

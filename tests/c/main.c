@@ -15,6 +15,7 @@ int main(void)
     everywhere("texts and drawings, into buffers of every length", texts);
     everywhere("keys, and envelopes into buffers of every length", issuing);
     everywhere("envelopes read at the desk", deriving);
+    everywhere("every byte of an answer, whatever memory and stack held before", answers);
     everywhere("four threads at once", threads);
     return report();
 }

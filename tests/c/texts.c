@@ -1,4 +1,7 @@
-/* yendlowa_plan_text, yendlowa_plan_dot: what they write into buffers of every length, and that they touch nothing else. */
+/*
+ * yendlowa_plan_text, yendlowa_plan_dot: what they write into buffers of every length, that they touch nothing else, and that a
+ * refused policy is refused before a short buffer.
+ */
 #include "groups.h"
 #include <string.h>
 #include <yendlowa_issuer.h>
@@ -14,6 +17,18 @@ static void into_every_length(writer *write, bytes policy, bytes text)
         if (length < text.length) check(w.refusal == YENDLOWA_NO_ROOM && w.length == 0 && holds_only(BYTES("")));
         else check(w.refusal == YENDLOWA_ACCEPTED && w.length == text.length && holds_only(text));
     }
+}
+
+/* A refused policy is refused under its number whatever room there is, and nothing is written. */
+static void refused(bytes policy, uint8_t number)
+{
+    static writer *const writers[] = {yendlowa_plan_text, yendlowa_plan_dot};
+    bytes p = input(0, policy);
+    for (size_t i = 0; i < 2; i++)
+        for (size_t length = 0; length <= 70; length++) {
+            yendlowa_written w = writers[i](p.at, p.length, lend(length), length);
+            check(w.refusal == number && w.length == 0 && holds_only(BYTES("")));
+        }
 }
 
 /* A policy's drawing, as it is in a buffer that always suffices. */
@@ -36,9 +51,11 @@ void texts(void)
     }
     into_every_length(yendlowa_plan_text, BYTES(E),
                       BYTES("SUITE - 2 1 2\nCURVES SUITE 3 2 3\nCONV32 SUITE 5 1 5\nACCRUED CONV32 7 1 4\nTOTAL 17\n"));
-    into_every_length(yendlowa_plan_text, BYTES(""), BYTES("REFUSED 1\n"));
     into_every_length(yendlowa_plan_text, full, full_text);
     into_every_length(yendlowa_plan_dot, BYTES(E), e_drawing);
-    into_every_length(yendlowa_plan_dot, BYTES(""), BYTES("REFUSED 1\n"));
     into_every_length(yendlowa_plan_dot, full, drawing(full));
+    refused(BYTES(""), YENDLOWA_EMPTY);
+    refused(BYTES(E "OV\0"), YENDLOWA_CUT_SHORT);
+    refused(BYTES(E "OV\3\3"), YENDLOWA_NOT_ABOVE);
+    refused(BYTES("LBA       \0\1LBB       \0\1"), YENDLOWA_SECOND_TOP);
 }

@@ -8,6 +8,7 @@ use crate::files;
 use crate::group::{hex, Answers, Group, Hex};
 use crate::issuing;
 use crate::ours;
+use crate::plans::{self, Form};
 use crate::policy::{self, Policy};
 use crate::random::Random;
 use crate::records;
@@ -28,6 +29,7 @@ struct Operation {
 
 const OF_POLICY: &[u8] = &[0, 1, 2, 3, 4, 5, 6, 7, 8, 9, 10];
 const OF_TREE: &[u8] = &[0, 1, 2, 3, 4, 5, 6, 7, 8, 9, 10, 11, 12];
+const OF_TEXT: &[u8] = &[0, 1, 2, 3, 4, 5, 6, 7, 8, 9, 10, 16];
 const OF_KEY: &[u8] = &[0, 1, 2, 3, 4, 5, 6, 7, 8, 9, 10, 13, 15];
 const OF_ISSUE: &[u8] = &[0, 1, 2, 3, 4, 5, 6, 7, 8, 9, 10, 13, 14, 15, 16];
 const OF_ENVELOPE: &[u8] = &[0, 2, 3, 5, 6, 7, 17, 18, 19];
@@ -41,8 +43,8 @@ const OPERATIONS: [Operation; 14] = [
     Operation { name: "order", run: order, refusals: OF_POLICY },
     Operation { name: "plan", run: plan, refusals: OF_POLICY },
     Operation { name: "weigh", run: weigh, refusals: OF_TREE },
-    Operation { name: "plan_text", run: plan_text, refusals: &[0, 16] },
-    Operation { name: "plan_dot", run: plan_dot, refusals: &[0, 16] },
+    Operation { name: "plan_text", run: plan_text, refusals: OF_TEXT },
+    Operation { name: "plan_dot", run: plan_dot, refusals: OF_TEXT },
     Operation { name: "issuer_key", run: issuer_key, refusals: OF_KEY },
     Operation { name: "issue", run: issue, refusals: OF_ISSUE },
     Operation { name: "derive", run: derive, refusals: OF_DERIVE },
@@ -71,24 +73,22 @@ impl Case<'_> {
         self.group.case(|| format!("{}, input: {}", self.place, input()), ours, second);
     }
 
-    /// Compares what is written into so much room. `write` gives our refusal and length.
+    /// Compares what is written into so much room. `write` gives our length or refusal.
     fn compare_written(
         &mut self,
         expected: Result<Vec<u8>, u8>,
         room: usize,
         input: impl Fn() -> String,
-        write: impl Fn(&mut [u8]) -> (u8, usize),
+        write: impl Fn(&mut [u8]) -> Result<usize, u8>,
     ) {
         let mut memory = self.random.bytes(BESIDE + room + BESIDE);
         let mut second = memory.clone();
-        let answer = match &expected {
-            Ok(bytes) => (0, bytes.len()),
-            Err(number) => (*number, 0),
-        };
-        second[BESIDE..BESIDE + answer.1].copy_from_slice(expected.as_deref().unwrap_or(&[]));
+        let bytes = expected.as_deref().unwrap_or(&[]);
+        second[BESIDE..BESIDE + bytes.len()].copy_from_slice(bytes);
+        let answer = expected.map(|bytes| bytes.len());
         let said = write(&mut memory[BESIDE..BESIDE + room]);
         let what = || format!("{room} bytes of room, {}", input());
-        self.compare(answer.0, what, (said, Hex(memory)), (answer, Hex(second)));
+        self.compare(refusal(&answer), what, (said, Hex(memory)), (answer, Hex(second)));
     }
 }
 
@@ -240,20 +240,20 @@ fn room(random: &mut Random, length: usize) -> usize {
     }
 }
 
-fn written(case: &mut Case, ours: fn(&[u8], &mut [u8]) -> (u8, usize), second: fn(&[u8]) -> Vec<u8>) {
+fn written(case: &mut Case, form: &Form) {
     let file = policy_file(case);
-    let text = second(&file);
-    let room = room(case.random, text.len());
-    let expected = if room < text.len() { Err(16) } else { Ok(text) };
-    case.compare_written(expected, room, || hex(&file), |buffer| ours(&file, buffer));
+    let text = (form.second)(&file);
+    let room = room(case.random, text.as_ref().map_or(100, Vec::len));
+    let expected = tree::into_room(text, room);
+    case.compare_written(expected, room, || hex(&file), |buffer| (form.ours)(&file, buffer));
 }
 
 fn plan_text(case: &mut Case) {
-    written(case, ours::plan_text, tree::text);
+    written(case, &plans::TEXT);
 }
 
 fn plan_dot(case: &mut Case) {
-    written(case, ours::plan_dot, tree::dot);
+    written(case, &plans::DOT);
 }
 
 /// A name to ask the issuer for: of a label, more often of one with accounts, or one that the policy has not.
@@ -315,11 +315,7 @@ fn issue(case: &mut Case) {
     let second = into(room);
     let (file, name, root) = (&file[..], &name[..], &root[..]);
     let input = || format!("policy {}, name {}, account {account}, root {}", hex(file), hex(name), hex(root));
-    let write = |buffer: &mut [u8]| match ours::issue(file, name, account, root, buffer) {
-        Ok(length) => (0, length),
-        Err(number) => (number, 0),
-    };
-    case.compare_written(second, room, input, write);
+    case.compare_written(second, room, input, |buffer| ours::issue(file, name, account, root, buffer));
 }
 
 /// An envelope's file with names that its records have or had: a third are whole, some of these full.

@@ -229,8 +229,8 @@ fn every_label(asked: &mut Asked, random: &mut Random, policy: &Policy) {
 
 /// Policies of every size, 64 labels and 512 pairs among them.
 fn every_envelope(random: &mut Random, hash: &Sha256, counts: &mut Counts) -> bool {
-    let mut asked = Asked::new("2,400 policies, an envelope of each label, every name from it", hash, counts);
-    for i in 0..2400 {
+    let mut asked = Asked::new("1,000 policies, an envelope of each label, every name from it", hash, counts);
+    for i in 0..1000 {
         let labels = 1 + random.below(24);
         let more = random.choose(&[0, 3, 60]);
         let made = match i % 16 {

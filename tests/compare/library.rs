@@ -1,4 +1,4 @@
-//! The C interface of the proved library.
+//! The C interface of the proved library. No struct has padding: `zeros` fills the gaps and is always 0.
 
 #[repr(C)]
 #[derive(Debug, PartialEq)]
@@ -18,6 +18,7 @@ pub struct Pair {
 #[derive(Debug, PartialEq)]
 pub struct Policy {
     pub refusal: u8,
+    pub zeros: [u8; 7],
     pub labels: usize,
     pub pairs: usize,
     pub counts: [u16; 64],
@@ -35,25 +36,28 @@ pub struct Rows {
 #[derive(Debug, PartialEq)]
 pub struct Plan {
     pub refusal: u8,
+    pub zeros: [u8; 3],
+    pub total: u32,
     pub labels: usize,
     pub parents: [u8; 64],
     pub weights: [u32; 64],
     pub sizes: [u8; 64],
-    pub total: u32,
 }
 
 #[repr(C)]
 #[derive(Debug, PartialEq)]
 pub struct Weighed {
     pub refusal: u8,
-    pub total: u32,
     pub least: bool,
+    pub zeros: [u8; 2],
+    pub total: u32,
 }
 
 #[repr(C)]
 #[derive(Debug, PartialEq)]
 pub struct Written {
     pub refusal: u8,
+    pub zeros: [u8; 7],
     pub length: usize,
 }
 
@@ -62,13 +66,6 @@ pub struct Written {
 pub struct IssuerKey {
     pub refusal: u8,
     pub key: [u8; 32],
-}
-
-#[repr(C)]
-#[derive(Debug, PartialEq)]
-pub struct Issued {
-    pub refusal: u8,
-    pub length: usize,
 }
 
 #[repr(C)]
@@ -83,6 +80,7 @@ pub struct Derived {
 #[derive(Debug, PartialEq)]
 pub struct Labels {
     pub refusal: u8,
+    pub zeros: [u8; 5],
     pub account: u16,
     pub labels: usize,
     pub names: [u8; 512],
@@ -136,7 +134,7 @@ extern "C" {
         root_length: usize,
         envelope: *mut u8,
         envelope_length: usize,
-    ) -> Issued;
+    ) -> Written;
     pub fn yendlowa_derive(
         envelope: *const u8,
         envelope_length: usize,

@@ -25,14 +25,15 @@ pub fn hmac_sha256(key: &[u8], message: &[u8]) -> (u8, [u8; 32]) {
     (digest.refusal, digest.bytes)
 }
 
-/// Label count, counts and pairs, or the refusal. An entry past the counts that is not zero, or any
-/// number beside a refusal, is a difference and reported as the error 255.
+/// Label count, counts and pairs, or the refusal. An entry past the counts that is not zero, any number beside
+/// a refusal, or a byte of `zeros` that is none, is a difference and reported as the error 255, here and below.
 pub fn read_policy(policy: &[u8]) -> Result<(Vec<u16>, Vec<(u8, u8)>), u8> {
     let read = unsafe { yendlowa_read_policy(at(policy), policy.len()) };
     let behind_zero = read.counts.iter().skip(read.labels).all(|c| *c == 0)
         && read.over.iter().skip(read.pairs).all(|p| (p.upper, p.lower) == (0, 0));
     let zero = read.labels == 0 && read.pairs == 0;
-    if read.labels > 64 || read.pairs > 512 || !behind_zero || (read.refusal != 0 && !zero) {
+    let within = read.labels <= 64 && read.pairs <= 512 && read.zeros == [0; 7];
+    if !within || !behind_zero || (read.refusal != 0 && !zero) {
         return Err(255);
     }
     if read.refusal != 0 {
@@ -57,15 +58,15 @@ pub fn expected(policy: &policy::Policy) -> (Vec<u16>, Vec<(u8, u8)>) {
     (policy.counts.clone(), policy.pairs.clone())
 }
 
-/// The plan, or the refusal. Entries past the label count, and all beside a refusal, have to be zero; else
-/// the error is 255.
+/// The plan, or the refusal. Entries past the label count, and all beside a refusal, have to be zero.
 pub fn plan(policy: &[u8]) -> Result<tree::Plan, u8> {
     let made = unsafe { yendlowa_plan(at(policy), policy.len()) };
     let labels = made.labels;
     let behind_zero = made.parents.iter().skip(labels).all(|parent| *parent == 0)
         && made.weights.iter().skip(labels).all(|weight| *weight == 0)
         && made.sizes.iter().skip(labels).all(|size| *size == 0);
-    if labels > 64 || !behind_zero || (made.refusal != 0 && (labels, made.total) != (0, 0)) {
+    let within = labels <= 64 && made.zeros == [0; 3];
+    if !within || !behind_zero || (made.refusal != 0 && (labels, made.total) != (0, 0)) {
         return Err(255);
     }
     if made.refusal != 0 {
@@ -79,34 +80,36 @@ pub fn plan(policy: &[u8]) -> Result<tree::Plan, u8> {
     })
 }
 
-/// A tree's total and whether it is least, or the refusal. Beside a refusal stand 0 and no; else the error
-/// is 255.
+/// A tree's total and whether it is least, or the refusal. Beside a refusal stand 0 and no.
 pub fn weigh(policy: &[u8], tree: &[u8]) -> Result<(u32, bool), u8> {
     let weighed = unsafe { yendlowa_weigh(at(policy), policy.len(), at(tree), tree.len()) };
-    match (weighed.refusal, weighed.total, weighed.least) {
-        (0, total, least) => Ok((total, least)),
-        (number, 0, false) => Err(number),
+    match (weighed.refusal, weighed.total, weighed.least, weighed.zeros) {
+        (0, total, least, [0, 0]) => Ok((total, least)),
+        (number, 0, false, [0, 0]) => Err(number),
         _ => Err(255),
     }
 }
 
-/// The refusal and the length of the text that was written into `out`.
-pub fn plan_text(policy: &[u8], out: &mut [u8]) -> (u8, usize) {
-    let written = unsafe {
-        yendlowa_plan_text(at(policy), policy.len(), at_mut(out), out.len())
-    };
-    (written.refusal, written.length)
+/// The length of what was written, or the refusal. Beside a refusal stands 0.
+fn length(written: Written) -> Result<usize, u8> {
+    match (written.refusal, written.length, written.zeros) {
+        (0, length, [0, 0, 0, 0, 0, 0, 0]) => Ok(length),
+        (number, 0, [0, 0, 0, 0, 0, 0, 0]) => Err(number),
+        _ => Err(255),
+    }
+}
+
+/// The length of the text that was written into `out`, or the refusal.
+pub fn plan_text(policy: &[u8], out: &mut [u8]) -> Result<usize, u8> {
+    length(unsafe { yendlowa_plan_text(at(policy), policy.len(), at_mut(out), out.len()) })
 }
 
 /// The same of the drawing.
-pub fn plan_dot(policy: &[u8], out: &mut [u8]) -> (u8, usize) {
-    let written = unsafe {
-        yendlowa_plan_dot(at(policy), policy.len(), at_mut(out), out.len())
-    };
-    (written.refusal, written.length)
+pub fn plan_dot(policy: &[u8], out: &mut [u8]) -> Result<usize, u8> {
+    length(unsafe { yendlowa_plan_dot(at(policy), policy.len(), at_mut(out), out.len()) })
 }
 
-/// The issuer's key, or the refusal. Beside a refusal stand 32 zero bytes; else the error is 255.
+/// The issuer's key, or the refusal. Beside a refusal stand 32 zero bytes.
 pub fn issuer_key(policy: &[u8], name: &[u8], root: &[u8]) -> Result<[u8; 32], u8> {
     let answer = unsafe {
         let (policy, length) = (at(policy), policy.len());
@@ -119,10 +122,9 @@ pub fn issuer_key(policy: &[u8], name: &[u8], root: &[u8]) -> Result<[u8; 32], u
     }
 }
 
-/// The length of the envelope that was written into the buffer, or the refusal. Beside a refusal stands 0; else
-/// the error is 255.
+/// The length of the envelope that was written into the buffer, or the refusal.
 pub fn issue(policy: &[u8], name: &[u8], account: u32, root: &[u8], envelope: &mut [u8]) -> Result<usize, u8> {
-    let issued = unsafe {
+    length(unsafe {
         yendlowa_issue(
             at(policy),
             policy.len(),
@@ -134,16 +136,10 @@ pub fn issue(policy: &[u8], name: &[u8], account: u32, root: &[u8], envelope: &m
             at_mut(envelope),
             envelope.len(),
         )
-    };
-    match (issued.refusal, issued.length) {
-        (0, length) => Ok(length),
-        (number, 0) => Err(number),
-        _ => Err(255),
-    }
+    })
 }
 
-/// The key and the number of applications, or the refusal. Beside a refusal stand 32 zero bytes and 0; else the
-/// error is 255.
+/// The key and the number of applications, or the refusal. Beside a refusal stand 32 zero bytes and 0.
 pub fn derive(envelope: &[u8], name: &[u8]) -> Result<([u8; 32], u8), u8> {
     let derived = unsafe { yendlowa_derive(at(envelope), envelope.len(), at(name), name.len()) };
     match (derived.refusal, derived.key, derived.applications) {
@@ -153,12 +149,11 @@ pub fn derive(envelope: &[u8], name: &[u8]) -> Result<([u8; 32], u8), u8> {
     }
 }
 
-/// The account and the names, or the refusal. Names past the labels, and all beside a refusal, have to be zero;
-/// else the error is 255.
+/// The account and the names, or the refusal. Names past the labels, and all beside a refusal, have to be zero.
 pub fn labels(envelope: &[u8]) -> Result<(u16, Vec<[u8; 8]>), u8> {
     let read = unsafe { yendlowa_labels(at(envelope), envelope.len()) };
     let names: Vec<[u8; 8]> = read.names.chunks(8).map(|name| name.try_into().unwrap()).collect();
-    let behind_zero = names.iter().skip(read.labels).all(|name| *name == [0; 8]);
+    let behind_zero = names.iter().skip(read.labels).all(|name| *name == [0; 8]) && read.zeros == [0; 5];
     match (read.refusal, read.account, read.labels) {
         (0, account, labels @ ..=64) if behind_zero => Ok((account, names[..labels].to_vec())),
         (number, 0, 0) if number != 0 && behind_zero => Err(number),

@@ -8,15 +8,15 @@ use crate::policy::Policy;
 use crate::random::Random;
 use crate::tree::{self, Plan, Planned};
 
-/// A way to write a plan: ours into a buffer, with refusal and length, and the second implementation's bytes.
-struct Form {
+/// A way to write a plan: ours into a buffer, with the length, and the second implementation's bytes, or the refusal.
+pub struct Form {
     name: &'static str,
-    ours: fn(&[u8], &mut [u8]) -> (u8, usize),
-    second: fn(&[u8]) -> Vec<u8>,
+    pub ours: fn(&[u8], &mut [u8]) -> Result<usize, u8>,
+    pub second: fn(&[u8]) -> Result<Vec<u8>, u8>,
 }
 
-const TEXT: Form = Form { name: "text", ours: ours::plan_text, second: tree::text };
-const DOT: Form = Form { name: "drawing", ours: ours::plan_dot, second: tree::dot };
+pub const TEXT: Form = Form { name: "text", ours: ours::plan_text, second: tree::text };
+pub const DOT: Form = Form { name: "drawing", ours: ours::plan_dot, second: tree::dot };
 const FORMS: [Form; 2] = [TEXT, DOT];
 
 /// What the library was asked for, over all groups.
@@ -51,13 +51,14 @@ impl<'a> Asked<'a> {
         self.group.case(what, ours::weigh(file, tree), expected);
     }
 
-    /// The text goes to the buffer's start, and all behind it stays; a buffer that is too short stays whole.
-    fn text(&mut self, form: &Form, file: &[u8], text: &[u8], room: usize) {
+    /// The text goes to the buffer's start, and all behind it stays; with a refusal the buffer stays whole.
+    fn text(&mut self, form: &Form, file: &[u8], text: &Result<Vec<u8>, u8>, room: usize) {
         self.counts.texts += 1;
         let mut buffer: Vec<u8> = (0..room).map(|i| 128 + (i * 37 % 128) as u8).collect();
         let mut expected = buffer.clone();
-        let answer = if room < text.len() { (16, 0) } else { (0, text.len()) };
-        expected[..answer.1].copy_from_slice(&text[..answer.1]);
+        let written = tree::into_room(text.clone(), room);
+        let answer = written.as_ref().map(Vec::len).map_err(|number| *number);
+        expected[..answer.unwrap_or(0)].copy_from_slice(&written.unwrap_or_default());
         let said = (form.ours)(file, &mut buffer);
         let what = || format!("{} of {} with {room} bytes", form.name, hex(file));
         self.group.case(what, (said, buffer), (answer, expected));
@@ -67,7 +68,7 @@ impl<'a> Asked<'a> {
     fn texts(&mut self, random: &mut Random, file: &[u8]) {
         for form in &FORMS {
             let text = (form.second)(file);
-            let length = text.len();
+            let length = text.as_ref().map_or(100, Vec::len);
             let some = [random.below(length), length + random.below(5000)];
             for room in [8192, length, length - 1, length + 1, 0].into_iter().chain(some) {
                 self.text(form, file, &text, room);
@@ -188,7 +189,8 @@ fn by_hand(counts: &mut Counts) -> bool {
         for form in &FORMS {
             asked.text(form, &file, &(form.second)(&file), 8192);
             if let Err(number) = answer {
-                asked.text(form, &file, format!("REFUSED {number}\n").as_bytes(), 8192);
+                asked.text(form, &file, &Err(number), 8192);
+                asked.text(form, &file, &Err(number), 0);
             }
         }
     }
@@ -198,10 +200,11 @@ fn by_hand(counts: &mut Counts) -> bool {
         asked.weigh(&file, &offered, answer);
     }
     let e = files::written_e(&files::E_PAIRS);
-    for (form, text) in [(TEXT, E_TEXT.as_bytes()), (DOT, E_DOT.as_bytes())] {
-        asked.group.case(|| format!("{} of E, second alone", form.name), (form.second)(&e), text.to_vec());
+    for (form, text) in [(TEXT, E_TEXT), (DOT, E_DOT)] {
+        let expected = Ok(text.as_bytes().to_vec());
+        asked.group.case(|| format!("{} of E, second alone", form.name), &(form.second)(&e), &expected);
         for room in 0..text.len() + 9 {
-            asked.text(&form, &e, text, room);
+            asked.text(&form, &e, &expected, room);
         }
     }
     asked.report()
@@ -257,7 +260,7 @@ fn tried_policy(asked: &mut Asked, made: &Policy) {
     }
     for form in &FORMS {
         let text = (form.second)(&file);
-        asked.text(form, &file, &text, text.len());
+        asked.text(form, &file, &text, text.as_ref().map_or(0, Vec::len));
     }
 }
 
@@ -301,7 +304,7 @@ fn every_tree_file(random: &mut Random, counts: &mut Counts) -> bool {
 
 fn larger(random: &mut Random, counts: &mut Counts) -> bool {
     let mut asked = Asked::new("policies of up to 64 labels and 512 pairs, their trees, texts and drawings", counts);
-    for i in 0..3000 {
+    for i in 0..1500 {
         let made = files::any_size(random, i);
         let (file, planned) = (made.to_bytes(), Planned::new(&made));
         asked.plan(&file, Ok(planned.plan.clone()));
@@ -408,7 +411,7 @@ fn rooms(random: &mut Random, counts: &mut Counts) -> bool {
         for i in [0, 1, 3, 7, 20, 63] {
             let file = files::any_size(random, i).to_bytes();
             let text = (form.second)(&file);
-            for room in 0..text.len() + 70 {
+            for room in 0..text.as_ref().map_or(0, Vec::len) + 70 {
                 asked.text(form, &file, &text, room);
             }
             asked.text(form, &file, &text, 65_536);
@@ -416,7 +419,7 @@ fn rooms(random: &mut Random, counts: &mut Counts) -> bool {
         for _ in 0..200 {
             let (file, number) = files::refused_policy(random);
             for room in 0..30 {
-                asked.text(form, &file, &tree::refused_text(number), room);
+                asked.text(form, &file, &Err(number), room);
             }
         }
     }

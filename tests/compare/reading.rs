@@ -101,7 +101,7 @@ fn every_length(random: &mut Random) -> Vec<Vec<u8>> {
 
 fn order(random: &mut Random) -> bool {
     let mut group = Group::new("order, every entry of the table");
-    for i in 0..1500 {
+    for i in 0..600 {
         let made = if i < 64 { files::policy(random, i + 1, 8 * i) } else { files::any_policy(random) };
         let (refusal, rows) = ours::order(&made.to_bytes());
         group.case(|| hex(&made.to_bytes()), refusal, 0);

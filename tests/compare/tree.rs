@@ -171,14 +171,15 @@ pub fn weigh(file: &[u8], tree: &[u8]) -> Result<(u32, bool), u8> {
     policy::read(file).and_then(|policy| Planned::new(&policy).weigh(tree))
 }
 
-pub fn text(file: &[u8]) -> Vec<u8> {
-    policy::read(file).map_or_else(refused_text, |policy| Planned::new(&policy).text())
+pub fn text(file: &[u8]) -> Result<Vec<u8>, u8> {
+    policy::read(file).map(|policy| Planned::new(&policy).text())
 }
 
-pub fn dot(file: &[u8]) -> Vec<u8> {
-    policy::read(file).map_or_else(refused_text, |policy| Planned::new(&policy).dot())
+pub fn dot(file: &[u8]) -> Result<Vec<u8>, u8> {
+    policy::read(file).map(|policy| Planned::new(&policy).dot())
 }
 
-pub fn refused_text(number: u8) -> Vec<u8> {
-    format!("REFUSED {number}\n").into_bytes()
+/// What is written into so much room: a refusal of the policy comes before one of the buffer.
+pub fn into_room(text: Result<Vec<u8>, u8>, room: usize) -> Result<Vec<u8>, u8> {
+    text.and_then(|text| if room < text.len() { Err(16) } else { Ok(text) })
 }

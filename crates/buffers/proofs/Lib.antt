@@ -1,2 +1,3 @@
 pub mod Writes
 pub mod Handed
+pub mod Unless

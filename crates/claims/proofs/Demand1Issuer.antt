@@ -2,9 +2,9 @@
 use Prim.Native.Nat.{ℕ}
 use mathlib.Core.List.{List}
 use lib.ListN.{length}
-use Rattle.issuer.proofs.Answers.{key-answered, issue-answered}
-use Rattle.issuer.proofs.Words.{key-only, issue-only}
-use Rattle.issuer.proofs.Zeros.{key-zeros, issue-zeros, issue-unchanged}
+use Rattle.issuer_answers.proofs.Answers.{key-answered, issue-answered}
+use Rattle.issuer_answers.proofs.Words.{key-only, issue-only}
+use Rattle.issuer_answers.proofs.Zeros.{key-zeros, issue-zeros, issue-unchanged}
 use Rattle.claims.specs.Demand1Issuer.{Demand1OfKey, Demand1OfIssue}
 
 pub demand1-of-key : (policy name root : List ℕ) → Demand1OfKey policy name root

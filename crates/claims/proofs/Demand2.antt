@@ -1,14 +1,14 @@
 -- Demand 2, shown for every list of bytes that is an accepted policy.
 use Prim.Native.Nat.{ℕ, _+_, _≤_, _<_}
 use mathlib.Core.List.{List, _++_}
-use mathlib.Core.Path.{_≡_, refl, sym, ap, _∙_}
+use mathlib.Core.Path.{_≡_, refl, sym, ap, _∙_, subst}
 use native.Mathlib.Omega.{arith}
 use lib.ListN.{length, getD, drop}
 use Rattle.buffers.proofs.Handed.{left-room}
-use Rattle.desk.proofs.Paths.{applications-path}
-use Rattle.desk.specs.Derive.{derivedOf}
-use Rattle.desk.specs.declared.Derived.{Derived}
-use Rattle.desk.specs.declared.Labels.{Labels as Listed}
+use Rattle.envelope_file.proofs.Paths.{applications-path}
+use Rattle.envelope_file.specs.Derive.{derivedOf}
+use Rattle.envelope_file.specs.declared.Derived.{Derived}
+use Rattle.envelope_file.specs.declared.Labels.{Labels as Listed}
 use Rattle.envelopes.proofs.Held.{held-secrets, held-names}
 use Rattle.envelopes.proofs.Length.{envelope-length, envelope-short, accounts-length, accounts-alike}
 use Rattle.envelopes.proofs.Names.{reads-labels, names-label}
@@ -20,24 +20,26 @@ use Rattle.envelopes.specs.Envelope.{stepsTo}
 use Rattle.envelopes.specs.Labels.{Labels, Issue}
 use Rattle.envelopes.specs.Secrets.{keyOf}
 use Rattle.hmac.specs.Secrets.{F, childSecret, labelKey}
-use Rattle.issuer.proofs.Answers.{key-of-label, issue-written, issue-16, buffer-given, buffer-16}
-use Rattle.issuer.specs.Issue.{envelopeFor, bufferAfter}
-use Rattle.issuer.specs.Keys.{parentOf, labelKeyOf, issuerKeyOf}
-use Rattle.issuer.specs.Rows.{LabelOf, AccountOf}
-use Rattle.issuer.specs.declared.IssuerKey.{IssuerKey}
+use Rattle.issuer_answers.proofs.Answers.{key-of-label, issue-written, issue-16, buffer-given, buffer-16}
+use Rattle.issuer_answers.specs.Issue.{accountEnvelope, envelopeAfter}
+use Rattle.issuer_answers.specs.Keys.{parentOf, labelKeyOf, issuerKeyOf}
+use Rattle.issuer_answers.specs.Rows.{LabelOf, AccountOf}
+use Rattle.issuer_answers.specs.declared.IssuerKey.{IssuerKey}
 use Rattle.lists.specs.Buffer.{pasted}
-use Rattle.planner.proofs.PlanAnswer.{plan-answer-tree, plan-answer-hangs}
-use Rattle.planner.proofs.PolicyOrder.{policy-order}
-use Rattle.policy.proofs.Lawful.{lawful, name-length, count-small}
-use Rattle.policy.specs.File.{nameOf, countOf}
-use Rattle.policy.specs.Whole.{Accepted}
+use Rattle.plan_answers.proofs.PlanAnswer.{plan-answer-tree, plan-answer-hangs}
+use Rattle.plan_answers.proofs.PolicyOrder.{policy-order}
+use Rattle.plan_answers.specs.Planned.{atOrBelow}
+use Rattle.policy_file.proofs.Lawful.{lawful, name-length, count-small}
+use Rattle.policy_file.specs.File.{nameOf, countOf}
+use Rattle.policy_file.specs.Whole.{AcceptedPolicy, labelCount}
 use Rattle.trees.proofs.Smallest.{smallest-sufficient}
 use Rattle.claims.specs.Demand2.{OfSecrets, OfAccount, Demand2, secret}
-use Rattle.claims.specs.Demand3.{n, R, le}
+use Rattle.claims.specs.Published.{R}
+use Rattle.claims.proofs.Published.{published-of-policy}
 
-module _ (file : List ℕ) (ok : Accepted file) where
+module _ (file : List ℕ) (ok : AcceptedPolicy file) where
   -- the policy's labels, hung by the plan's tree
-  labels : Labels (n file) (R file) (le file) (nameOf file) (parentOf file)
+  labels : Labels (labelCount file) (R file) (atOrBelow file) (nameOf file) (parentOf file)
   labels = record {
     order = policy-order file ok;
     tree = plan-answer-tree file ok;
@@ -47,14 +49,14 @@ module _ (file : List ℕ) (ok : Accepted file) where
     distinct = lawful file ok .distinct;
   }
 
-  label-of : {m : ℕ} → m < n file → LabelOf file (nameOf file m) m
+  label-of : {m : ℕ} → m < labelCount file → LabelOf file (nameOf file m) m
   label-of hm = record { accepted = ok; label = hm; named = refl }
 
   module _ (root : List ℕ) (whole : length root ≡ 32) where
-    key-answer : (m : ℕ) → m < n file → issuerKeyOf file (nameOf file m) root ≡ record { refusal = 0; key = labelKeyOf file root m }
+    key-answer : (m : ℕ) → m < labelCount file → issuerKeyOf file (nameOf file m) root ≡ record { refusal = 0; key = labelKeyOf file root m }
     key-answer m hm = key-of-label file (nameOf file m) root (label-of hm) whole
 
-    of-secrets : OfSecrets file root
+    pub of-secrets : OfSecrets file root
     unfolding F childSecret labelKey labelKeyOf keyOf
     of-secrets = record {
       tree = plan-answer-tree file ok;
@@ -65,17 +67,17 @@ module _ (file : List ℕ) (ok : Accepted file) where
       key = key-answer;
     }
 
-    module _ (l account : ℕ) (hl : l < n file) (some : 0 < account) (within : account ≤ countOf file l) (small : countOf file l < 65536) where
+    module _ (l account : ℕ) (hl : l < labelCount file) (some : 0 < account) (within : account ≤ countOf file l) (small : countOf file l < 65536) where
       abbrev written : List ℕ
-      written = envelopeFor file root l account
+      written = accountEnvelope file root l account
 
       asked : AccountOf file (nameOf file l) l account
       asked = record { label = label-of hl; some = some; within = within }
 
-      for : Issue (n file) l account root
+      for : Issue (labelCount file) l account root
       for = record { label = hl; some = some; fits = omega arith; secret = whole }
 
-      left-over : (out : List ℕ) → length written ≤ length out → bufferAfter file (nameOf file l) account root out ≡ written ++ drop (length written) out
+      left-over : (out : List ℕ) → length written ≤ length out → envelopeAfter file (nameOf file l) account root out ≡ written ++ drop (length written) out
       unfolding pasted
       left-over out room =
           let start : 0 + length written ≡ length written = omega arith in
@@ -83,19 +85,19 @@ module _ (file : List ℕ) (ok : Accepted file) where
           ∙ sym (left-room written out room refl)
           ∙ ap (λ (k : ℕ). written ++ drop k out) start
 
-      opened : (m : ℕ) → m < n file → R file m l → derivedOf written (nameOf file m) ≡ record {
+      opened : (m : ℕ) → m < labelCount file → R file m l → derivedOf written (nameOf file m) ≡ record {
         refusal = 0;
         key = issuerKeyOf file (nameOf file m) root .key;
-        applications = stepsTo (le file) (parentOf file) l m + 1;
+        applications = stepsTo (atOrBelow file) (parentOf file) l m + 1;
       }
-      unfolding envelopeFor labelKeyOf
+      unfolding accountEnvelope labelKeyOf
       opened m hm r = opens labels for m hm r ∙ ap (λ (k : IssuerKey). derived (k .key) m) (sym (key-answer m hm))
         where
           derived : List ℕ → ℕ → Derived
-          derived key m = record { refusal = 0; key = key; applications = stepsTo (le file) (parentOf file) l m + 1 }
+          derived key m = record { refusal = 0; key = key; applications = stepsTo (atOrBelow file) (parentOf file) l m + 1 }
 
       pub of-account : OfAccount file root l account written
-      unfolding envelopeFor
+      unfolding accountEnvelope
       of-account = record {
         issued = λ out room. issue-written file (nameOf file l) account root l asked whole (length out) room;
         left = left-over;
@@ -104,6 +106,8 @@ module _ (file : List ℕ) (ok : Accepted file) where
         read = is-accepted labels for;
         opens = opened;
         path = λ m hm r. applications-path written (nameOf file m) (ap (λ (d : Derived). d .refusal) (opened m hm r));
+        refuses-label = λ m hm other. refuses labels for (nameOf file m)
+            (λ k hk r e. other (subst (λ (j : ℕ). R file j l) (sym (lawful file ok .distinct m k hm hk e)) r));
         refuses = refuses labels for;
         labels = ap (λ (a : Listed). a .labels) (reads-labels labels for);
         label-names = names-label labels for;
@@ -114,13 +118,14 @@ module _ (file : List ℕ) (ok : Accepted file) where
         few = envelope-short labels for;
         numbered = account-in labels for;
         alike = λ other. record {
-          as-long = accounts-length (nameOf file) (le file) (parentOf file) root l (n file) account other;
-          bytes = accounts-alike (nameOf file) (le file) (parentOf file) root l (n file) account other;
+          as-long = accounts-length (nameOf file) (atOrBelow file) (parentOf file) root l (labelCount file) account other;
+          bytes = accounts-alike (nameOf file) (atOrBelow file) (parentOf file) root l (labelCount file) account other;
         };
       }
 
-pub demand2 : (file : List ℕ) → Accepted file → ((i : ℕ) → getD file i 0 < 256) → Demand2 file
+pub demand2 : (file : List ℕ) → AcceptedPolicy file → ((i : ℕ) → getD file i 0 < 256) → Demand2 file
 demand2 file ok bytes = record {
+  published = published-of-policy file ok;
   secrets = of-secrets file ok;
   accounts = λ root whole l account hl some within. of-account file ok root whole l account hl some within (count-small file bytes l);
 }

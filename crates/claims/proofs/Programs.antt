@@ -3,18 +3,18 @@ use Prim.Native.Nat.{ℕ}
 use mathlib.Core.List.{List}
 use mathlib.Core.Path.{sym, _∙_}
 use native.Mathlib.Omega.{arith}
-use Rattle.desk.proofs.Front.{derived-front, labels-front, records-front}
-use Rattle.dot.proofs.Front.{dot-front}
-use Rattle.issuer.proofs.Front.{key-front, issued-front, buffer-front, key-root-front, issued-root-front, buffer-root-front}
-use Rattle.planner.proofs.Front.{weigh-front, weigh-tree-front}
-use Rattle.policy.proofs.Front.{front-answers, front-records}
-use Rattle.text.proofs.Front.{text-front}
+use Rattle.envelope_file.proofs.Front.{derived-front, labels-front, records-front}
+use Rattle.dot.proofs.Front.{drawing-front}
+use Rattle.issuer_answers.proofs.Front.{key-front, issued-front, buffer-front, key-root-front, issued-root-front, buffer-root-front}
+use Rattle.plan_answers.proofs.Front.{weigh-front, weigh-tree-front}
+use Rattle.policy_file.proofs.Front.{front-answers, front-records}
+use Rattle.text.proofs.Printed.{printed-front}
 use Rattle.claims.specs.Programs.{front, OfPlans, OfLicence, OfDesk}
 
 pub plans-from-front : (policy : List ℕ) → OfPlans policy
 plans-from-front policy = record {
-  text = sym (text-front 4096 (omega arith) policy);
-  drawing = sym (dot-front 4096 (omega arith) policy);
+  text = sym (printed-front 4096 (omega arith) policy);
+  drawing = sym (drawing-front 4096 (omega arith) policy);
 }
 
 pub licence-from-front : (policy tree name root : List ℕ) (account : ℕ) (out : List ℕ) (room : ℕ) → OfLicence policy tree name root account out room

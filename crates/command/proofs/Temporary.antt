@@ -6,7 +6,7 @@ use native.Mathlib.Omega.{arith}
 use lib.ListN.{length, length-append}
 use Rattle.buffers.proofs.Handed.{handed-none, handed-room, left-none, left-room}
 use Rattle.buffers.proofs.Writes.{put-next}
-use Rattle.buffers.specs.Handed.{handed, handedInto}
+use Rattle.buffers.specs.Handed.{wrote, refusedWritten, handed, handedInto}
 use Rattle.buffers.specs.Put.{Put}
 use Rattle.buffers.specs.declared.Written.{Written}
 use Rattle.command.specs.Typed.{temporaryName}
@@ -14,24 +14,21 @@ use Rattle.command.specs.Typed.{temporaryName}
 abbrev pub signs : List ℕ
 signs = 46 ∷ 88 ∷ 88 ∷ 88 ∷ 88 ∷ 88 ∷ 88 ∷ []
 
-abbrev answer : (refusal size : ℕ) → Written
-answer refusal size = record { refusal = refusal; length = size }
-
 module _ (path out : List ℕ) where
   temporary-length : length (temporaryName path) ≡ length path + 7
   unfolding temporaryName
   temporary-length = length-append path signs
 
-  pub temporary-none : length out < length path + 7
-      → (answer 16 0 ≡ handed (temporaryName path) (length out)) × (out ≡ handedInto (temporaryName path) out)
-  temporary-none h =
-      (handed-none _ _ (omega (arith, temporary-length)), left-none _ _ (omega (arith, temporary-length)))
+  pub temporary-none : {w : Written} → w ≡ refusedWritten 16 → length out < length path + 7
+      → (w ≡ handed (temporaryName path) (length out)) × (out ≡ handedInto (temporaryName path) out)
+  temporary-none e h =
+      (e ∙ handed-none _ _ (omega (arith, temporary-length)), left-none _ _ (omega (arith, temporary-length)))
 
   pub temporary-put : {mid after : List ℕ} {behind end : ℕ} → Put out mid 0 path behind → Put mid after behind signs end
-      → (answer 0 end ≡ handed (temporaryName path) (length out)) × (after ≡ handedInto (temporaryName path) out)
+      → (wrote end ≡ handed (temporaryName path) (length out)) × (after ≡ handedInto (temporaryName path) out)
   unfolding temporaryName
   temporary-put {mid} {after} {behind} {end} a b =
       let both : Put out after 0 (path ++ signs) end = put-next a b in
       let fits : length (path ++ signs) ≤ length out = omega (arith, both .fits) in
       let size : end ≡ length (path ++ signs) = omega (arith, both .behind) in
-      (ap (answer 0) size ∙ handed-room _ _ fits, left-room _ _ fits (both .written))
+      (ap wrote size ∙ handed-room _ _ fits, left-room _ _ fits (both .written))

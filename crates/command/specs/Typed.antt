@@ -8,7 +8,7 @@ use Rattle.format.specs.Digits.{valueOf}
 use Rattle.command.specs.declared.Number.the-variants.{Is, Not}
 use Rattle.command.specs.declared.Number.{Number}
 
--- "Names are padded for the user": a name of up to 8 bytes with spaces behind it; a longer one stays as it is
+-- names are padded for the user: a name of up to 8 bytes with spaces behind it; a longer one stays as it is
 unfoldable pub paddedName : List ℕ → List ℕ
 paddedName s = cond (ltb 8 (length s)) s (s ++ replicate (8 - length s) 32)
 

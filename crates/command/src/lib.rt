@@ -31,15 +31,13 @@ pub fn temporary_name(path: &[u8], name: &mut [u8]) -> Written
     ensures { λ r. ⌜ (r ≡ handed (temporaryName (now (path .entry))) (length (now (name .entry)))) × (now (name .exit) ≡ handedInto (temporaryName (now (path .entry))) (now (name .entry))) ⌝ }
 {
     if name.len() < path.len() || name.len() - path.len() < 7 {
-        return Written {
-            refusal: 16,
-            length: 0,
-        };
+        return buffers::refuse(16);
     }
     let behind = buffers::put_bytes(name, 0, path);
     let end = buffers::put_bytes(name, behind, b".XXXXXX");
     Written {
         refusal: 0,
+        zeros: [0u8; 7],
         length: end,
     }
 }

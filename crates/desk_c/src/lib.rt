@@ -1,10 +1,10 @@
 // The desk's operations for C callers, each by the equation of the operation itself. A slice is passed as a pointer and a length.
-use desk::Derived;
-use desk::Labels;
+use envelope_file::Derived;
+use envelope_file::Labels;
 ghost use mathlib.Core.Path.{_≡_};
-ghost use Rattle.desk.specs.Derive.{derivedOf};
-ghost use Rattle.desk.specs.Labels.{labelsOf};
-ghost use Rattle.desk.specs.Whole.{recordsRead};
+ghost use Rattle.envelope_file.specs.Derive.{derivedOf};
+ghost use Rattle.envelope_file.specs.Labels.{envelopeLabels};
+ghost use Rattle.envelope_file.specs.Whole.{envelopeRecordsRead};
 
 #[no_mangle]
 pub extern "C" fn yendlowa_derive(envelope: &[u8], name: &[u8]) -> Derived
@@ -15,14 +15,14 @@ pub extern "C" fn yendlowa_derive(envelope: &[u8], name: &[u8]) -> Derived
 
 #[no_mangle]
 pub extern "C" fn yendlowa_labels(envelope: &[u8]) -> Labels
-    ensures { λ r. ⌜ r ≡ labelsOf (now (envelope .entry)) ⌝ }
+    ensures { λ r. ⌜ r ≡ envelopeLabels (now (envelope .entry)) ⌝ }
 {
     desk::read_labels(envelope)
 }
 
 #[no_mangle]
 pub extern "C" fn yendlowa_envelope_records(envelope: &[u8]) -> usize
-    ensures { λ r. ⌜ r ≡ recordsRead (now (envelope .entry)) ⌝ }
+    ensures { λ r. ⌜ r ≡ envelopeRecordsRead (now (envelope .entry)) ⌝ }
 {
-    desk::records_read(envelope)
+    envelope::records_read(envelope)
 }

@@ -9,7 +9,7 @@ fn tell_refused(envelope: &[u8], number: u8) {
     if number == 20 {
         messages::asked_refused(number);
     } else {
-        messages::envelope_refused(number, desk::records_read(envelope));
+        messages::envelope_refused(number, envelope::records_read(envelope));
     }
 }
 
@@ -26,7 +26,7 @@ fn print_derived(envelope: &[u8], name: &[u8]) {
 
 // `derive ENVELOPE NAME`
 fn derive() {
-    // A longer file has the answer of its first 4,096 bytes (`derived-front`, `labels-front`, crate desk).
+    // A longer file has the answer of its first 4,096 bytes (`derived-front`, `labels-front`, crate envelope_file).
     let mut envelope = io::buffer();
     let read = files::read_argument(2, &mut envelope);
     let mut name = io::buffer();
@@ -40,7 +40,7 @@ fn derive() {
 // Prints a name without its padding.
 fn print_name(name: [u8; 8]) -> bool {
     let length = format::unpadded_length(&name);
-    messages::answer(&name[..length])
+    messages::answer(&name[..length]).ok
 }
 
 // Prints the first `labels` names, up to one that cannot be written.
@@ -78,15 +78,21 @@ fn labels() {
     }
 }
 
-fn main() {
-    let count = os::arg_count();
-    if count == 4 && files::is_word(1, b"derive") {
+// What is asked for by so many arguments, the first of them a verb.
+fn run(count: usize, verb: &[u8]) {
+    if count == 4 && check::same(verb, b"derive") {
         derive();
-    } else if count == 3 && files::is_word(1, b"labels") {
+    } else if count == 3 && check::same(verb, b"labels") {
         labels();
-    } else if count == 2 && files::asks_help() {
+    } else if count == 2 && files::asks_help(verb) {
         messages::written(usage::print(STDOUT_FILENO));
     } else {
         usage::print(STDERR_FILENO);
     }
+}
+
+fn main() {
+    let mut verb = io::buffer();
+    let length = files::argument(1, &mut verb);
+    run(os::arg_count(), &verb[..length]);
 }

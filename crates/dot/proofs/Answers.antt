@@ -1,17 +1,17 @@
--- What `plan_dot` answers and leaves, from what stands in the buffer of its own.
-use Prim.Native.Nat.{ℕ, _≤_}
+-- What `plan_dot` answers and leaves in the lent buffer.
+use Prim.Native.Nat.{ℕ, _<_}
 use mathlib.Core.List.{List}
 use mathlib.Core.Path.{_≡_}
-use native.Mathlib.Omega.{arith}
 use lib.ListN.{length}
-use Rattle.buffers.proofs.Handed.{room-handed, handed-within}
+use Rattle.buffers.proofs.Unless.{answer-refused, answer-handed}
+use Rattle.buffers.specs.Handed.{refusedWritten, handed, handedInto}
 use Rattle.buffers.specs.Put.{Put}
 use Rattle.buffers.specs.declared.Written.{Written}
-use Rattle.planner.specs.Planned.{planOf}
-use Rattle.planner.specs.declared.Plan.{Plan}
-use Rattle.dot.specs.Answer.{writtenOf, bufferAfter}
+use Rattle.plan_answers.specs.Planned.{planOf}
+use Rattle.plan_answers.specs.declared.Plan.{Plan}
+use Rattle.dot.specs.Answer.{drawingWritten, drawingAfter}
 use Rattle.dot.specs.Drawing.{drawing, dotText}
-use Rattle.dot.proofs.Lengths.{dot-suffices}
+use Rattle.text.proofs.Plans.{plan-number}
 
 -- the drawing stands at the front of the buffer
 module _ (file : List ℕ) {d e : List ℕ} {plan : Plan} {r : ℕ} (same : plan ≡ planOf file) (put : Put d e 0 (drawing file plan) r) where
@@ -19,13 +19,13 @@ module _ (file : List ℕ) {d e : List ℕ} {plan : Plan} {r : ℕ} (same : plan
   unfolding dotText
   dot-put = rw same at put
 
--- the length that is answered lies within the buffer
-pub written-within : (file out : List ℕ) (w : Written) (after : List ℕ)
-    → w ≡ writtenOf file (length out) → after ≡ bufferAfter file out → w .length ≤ length after
-unfolding writtenOf bufferAfter
-written-within file out w after e f = handed-within (dotText file) out w after e f
+-- from the refusal of the plan: the answer with it, and without one what was handed out
+module _ (file out : List ℕ) {plan : Plan} (same : plan ≡ planOf file) {w : Written} where
+  pub dot-refused : 0 < plan .refusal → w ≡ refusedWritten (plan .refusal) → (w ≡ drawingWritten file (length out)) × (out ≡ drawingAfter file out)
+  unfolding drawingWritten drawingAfter
+  dot-refused = answer-refused (plan-number file same) (dotText file) out
 
--- a buffer of 8,192 bytes, or of 7,617, has room for every drawing
-pub room-suffices : (file : List ℕ) (room : ℕ) → 7617 ≤ room → writtenOf file room ≡ record { refusal = 0; length = length (dotText file) }
-unfolding writtenOf
-room-suffices file room h = room-handed (dotText file) room (omega (arith, dot-suffices file))
+  pub dot-handed : plan .refusal ≡ 0 → {after : List ℕ} → w ≡ handed (dotText file) (length out) → after ≡ handedInto (dotText file) out
+      → (w ≡ drawingWritten file (length out)) × (after ≡ drawingAfter file out)
+  unfolding drawingWritten drawingAfter
+  dot-handed = answer-handed (plan-number file same) (dotText file) out

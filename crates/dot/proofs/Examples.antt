@@ -4,13 +4,14 @@ use mathlib.Core.List.{List, [], _∷_}
 use mathlib.Core.Path.{_≡_, refl}
 use Rattle.format.specs.Names.{unpadded}
 use Rattle.lists.specs.Tables.{concatBelow}
-use Rattle.planner.proofs.WorkedExamples.{plan-E}
-use Rattle.policy.proofs.Examples.{E}
-use Rattle.policy.specs.File.{nameOf, countOf}
-use Rattle.policy.specs.Whole.{scanned}
-use Rattle.planner.specs.Planned.{planned, planOf}
-use Rattle.text.specs.Decimal.{digitsBefore, decimal}
-use Rattle.text.specs.Listing.{worded, refusedLine}
+use Rattle.plan_answers.proofs.WorkedExamples.{plan-E}
+use Rattle.policy_file.proofs.Examples.{E}
+use Rattle.policy_file.specs.File.{nameOf, countOf}
+use Rattle.policy_file.specs.Whole.{policyOf}
+use Rattle.decimals.specs.Decimal.{digitsBefore, decimal}
+use Rattle.decimals.specs.Worded.{worded, refusedText}
+use Rattle.text.specs.Printed.{printedUnless}
+use Rattle.dot.specs.Answer.{printedDrawing}
 use Rattle.dot.specs.Drawing.{between, field, fields, node, edge, drawn, ending, drawing, dotText}
 
 -- digraph plan {
@@ -55,6 +56,6 @@ unfolding dotText drawing concatBelow drawn node edge between ending fields fiel
 dot-E = rw plan-E
 
 -- REFUSED 1
-pub dot-empty : dotText [] ≡ 82 ∷ 69 ∷ 70 ∷ 85 ∷ 83 ∷ 69 ∷ 68 ∷ 32 ∷ 49 ∷ 10 ∷ []
-unfolding dotText drawing refusedLine worded decimal digitsBefore planned planOf scanned
-dot-empty = refl
+pub printed-empty : printedDrawing [] ≡ 82 ∷ 69 ∷ 70 ∷ 85 ∷ 83 ∷ 69 ∷ 68 ∷ 32 ∷ 49 ∷ 10 ∷ []
+unfolding printedDrawing printedUnless refusedText worded decimal digitsBefore policyOf
+printed-empty = refl

@@ -3,13 +3,17 @@ use Prim.Native.Nat.{ℕ, _≤_, _<_}
 use mathlib.Core.List.{List}
 use mathlib.Core.Path.{_≡_}
 use native.Mathlib.Omega.{arith}
-use lib.ListN.{getD, take}
+use lib.ListN.{length, getD, take}
 use Rattle.lists.proofs.Concat.{concat-same}
-use Rattle.policy.proofs.Front.{Agree}
-use Rattle.planner.specs.declared.Plan.{Plan}
+use Rattle.policy_file.proofs.Front.{Agree}
+use Rattle.policy_file.specs.Whole.{policyRefusal}
+use Rattle.plan_answers.specs.declared.Plan.{Plan}
 use Rattle.text.proofs.Front.{front-same}
+use Rattle.text.proofs.Printed.{printed-short, printed-same}
 use Rattle.text.specs.Printable.{Printable}
+use Rattle.dot.specs.Answer.{printedDrawing}
 use Rattle.dot.specs.Drawing.{between, node, edge, drawn, drawing, dotText}
+use Rattle.dot.proofs.Lengths.{dot-suffices}
 
 module _ (a b : List ℕ) (same : Agree a b) (p : Plan) (ok : Printable b p) where
   drawn-same : (m : ℕ) → m < p .labels → drawn a p m ≡ drawn b p m
@@ -26,3 +30,12 @@ module _ (a b : List ℕ) (same : Agree a b) (p : Plan) (ok : Printable b p) whe
 pub dot-front : (n : ℕ) → 2828 ≤ n → (file : List ℕ) → dotText file ≡ dotText (take n file)
 unfolding dotText
 dot-front n enough file = front-same drawing drawing-same n enough file
+
+-- what the program prints: 8,192 bytes have room for it, and the first 2,828 bytes decide it
+pub printed-suffices : (file : List ℕ) → length (printedDrawing file) ≤ 7617
+unfolding printedDrawing
+printed-suffices file = printed-short (policyRefusal file) (dotText file) 7617 (omega arith) (dot-suffices file)
+
+pub drawing-front : (n : ℕ) → 2828 ≤ n → (file : List ℕ) → printedDrawing file ≡ printedDrawing (take n file)
+unfolding printedDrawing
+drawing-front n enough file = printed-same n enough file (dot-front n enough file)

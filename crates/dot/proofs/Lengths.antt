@@ -6,15 +6,13 @@ use native.Mathlib.Decide.{ℕ-discrete}
 use native.Mathlib.Omega.{arith}
 use lib.ListN.{length, getD}
 use Rattle.lists.proofs.Concat.{concat-short}
-use Rattle.policy.specs.File.{countOf}
-use Rattle.planner.specs.Planned.{planOf}
-use Rattle.planner.specs.declared.Plan.{Plan}
-use Rattle.text.proofs.Digits.{decimal-short}
-use Rattle.text.proofs.Parts.{worded-length}
+use Rattle.policy_file.specs.File.{countOf}
+use Rattle.plan_answers.specs.Planned.{planOf}
+use Rattle.plan_answers.specs.declared.Plan.{Plan}
+use Rattle.decimals.proofs.Digits.{decimal-short}
 use Rattle.text.proofs.Plans.{name-short, plan-printable}
-use Rattle.text.specs.Listing.{refusedWord}
 use Rattle.dot.specs.Drawing.{labelled, arrow, accountsWord, weightWord, keysWord, totalLabel, between, field, node, edge, drawn, drawing, dotText}
-use Rattle.dot.proofs.Parts.{between-length, field-length, fields-length, ending-length, node-length, edge-top, edge-length, drawn-length, drawing-refused, accepted-length}
+use Rattle.dot.proofs.Parts.{between-length, field-length, fields-length, ending-length, node-length, edge-top, edge-length, drawn-length, drawing-length}
 
 field-short : (word : List ℕ) (x : ℕ) → length (field word x) ≤ length word + 11
 field-short word x = omega (arith, field-length word x, decimal-short x)
@@ -52,19 +50,14 @@ module _ (file : List ℕ) where
     drawn-short m = omega (arith, drawn-length file plan m, node-short m, edge-short m)
 
     drawing-short : plan .labels ≤ 64 → length (drawing file plan) ≤ 7617
-    drawing-short few = go (ℕ-discrete (plan .refusal) 0)
-      where
-        go : Dec (plan .refusal ≡ 0) → length (drawing file plan) ≤ 7617
-        go (yes e) =
-            omega (
-              arith,
-              accepted-length file plan e,
-              concat-short (drawn file plan) 118 drawn-short (plan .labels),
-              ending-length plan,
-              field-short totalLabel (plan .total),
-            )
-        go (no ne) =
-            rw (drawing-refused file plan ne) (omega (arith, worded-length refusedWord (plan .refusal), decimal-short (plan .refusal)))
+    drawing-short few =
+        omega (
+          arith,
+          drawing-length file plan,
+          concat-short (drawn file plan) 118 drawn-short (plan .labels),
+          ending-length plan,
+          field-short totalLabel (plan .total),
+        )
 
 -- 35 bytes, 64 labels of 118, and 30: a buffer of 8,192 bytes has room for every drawing
 pub dot-suffices : (file : List ℕ) → length (dotText file) ≤ 7617

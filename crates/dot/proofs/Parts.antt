@@ -1,16 +1,15 @@
 -- The parts of a drawing, and their lengths.
 use Prim.Native.Nat.{ℕ, suc, _+_}
 use mathlib.Core.List.{List, [], _++_}
-use mathlib.Core.Path.{_≡_}
+use mathlib.Core.Path.{_≡_, refl}
 use native.Mathlib.Omega.{arith}
 use borrow.Author.Tests.{eq-eqb, ne-eqb}
 use lib.ListN.{length, getD, length-append}
 use Rattle.format.specs.Names.{unpadded}
 use Rattle.lists.specs.Tables.{concatBelow}
-use Rattle.policy.specs.File.{nameOf, countOf}
-use Rattle.planner.specs.declared.Plan.{Plan}
-use Rattle.text.specs.Decimal.{decimal}
-use Rattle.text.specs.Listing.{worded, refusedWord, refusedLine}
+use Rattle.policy_file.specs.File.{nameOf, countOf}
+use Rattle.plan_answers.specs.declared.Plan.{Plan}
+use Rattle.decimals.specs.Decimal.{decimal}
 use Rattle.dot.specs.Drawing.{header, labelled, arrow, nodeEnd, edgeEnd, accountsWord, weightWord, keysWord, totalLabel, between, field, fields, node, edge, drawn, ending, drawing}
 
 pub between-length : (file : List ℕ) (a : ℕ) (sign : List ℕ) (b : ℕ) → length (between file a sign b)
@@ -59,16 +58,11 @@ module _ (file : List ℕ) (plan : Plan) (m : ℕ) where
   unfolding drawn
   drawn-length = simp length-append
 
--- the drawing of a refused policy and of an accepted one
+-- the whole drawing
 module _ (file : List ℕ) (plan : Plan) where
-  pub drawing-refused : (plan .refusal ≡ 0 → ⊥) → drawing file plan ≡ worded refusedWord (plan .refusal)
-  unfolding drawing refusedLine
-  drawing-refused ne = rw (ne-eqb (plan .refusal) 0 ne)
+  pub drawing-parts : drawing file plan ≡ header ++ concatBelow (drawn file plan) (plan .labels) ++ ending plan
+  unfolding drawing
+  drawing-parts = refl
 
-  module _ (e : plan .refusal ≡ 0) where
-    pub drawing-accepted : drawing file plan ≡ header ++ concatBelow (drawn file plan) (plan .labels) ++ ending plan
-    unfolding drawing
-    drawing-accepted = rw (eq-eqb (plan .refusal) 0 e)
-
-    pub accepted-length : length (drawing file plan) ≡ 35 + length (concatBelow (drawn file plan) (plan .labels)) + length (ending plan)
-    accepted-length = rw drawing-accepted (simp length-append)
+  pub drawing-length : length (drawing file plan) ≡ 35 + length (concatBelow (drawn file plan) (plan .labels)) + length (ending plan)
+  drawing-length = rw drawing-parts (simp length-append)

@@ -1,13 +1,19 @@
--- What `plan_dot` answers and leaves in the lent buffer.
+-- What `plan_dot` answers and leaves in the lent buffer, and what the program of that name prints.
 use Prim.Native.Nat.{ℕ}
 use mathlib.Core.List.{List}
-use Rattle.buffers.specs.Handed.{handed, handedInto}
+use Rattle.buffers.specs.Handed.{writtenUnless, bufferUnless}
 use Rattle.buffers.specs.declared.Written.{Written}
+use Rattle.policy_file.specs.Whole.{policyRefusal}
+use Rattle.text.specs.Printed.{printedUnless}
 use Rattle.dot.specs.Drawing.{dotText}
 
--- the drawing of a policy file is handed out
-unfoldable pub writtenOf : List ℕ → (room : ℕ) → Written
-writtenOf file room = handed (dotText file) room
+-- the drawing is handed out unless the policy is refused: "A refusal of the policy comes before any other"
+unfoldable pub drawingWritten : List ℕ → (room : ℕ) → Written
+drawingWritten file room = writtenUnless (policyRefusal file) (dotText file) room
 
-unfoldable pub bufferAfter : List ℕ → List ℕ → List ℕ
-bufferAfter file out = handedInto (dotText file) out
+unfoldable pub drawingAfter : List ℕ → List ℕ → List ℕ
+drawingAfter file out = bufferUnless (policyRefusal file) (dotText file) out
+
+-- what the program prints for a policy file; for a refused one the line that `plan` prints
+unfoldable pub printedDrawing : List ℕ → List ℕ
+printedDrawing file = printedUnless (policyRefusal file) (dotText file)

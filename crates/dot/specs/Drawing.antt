@@ -7,12 +7,12 @@ use lib.Dec.{eqb}
 use lib.ListN.{getD}
 use Rattle.format.specs.Names.{unpadded}
 use Rattle.lists.specs.Tables.{concatBelow}
-use Rattle.policy.specs.File.{nameOf, countOf}
+use Rattle.policy_file.specs.File.{nameOf, countOf}
 use Rattle.trees.specs.Trees.{top}
-use Rattle.planner.specs.Planned.{planOf}
-use Rattle.planner.specs.declared.Plan.{Plan}
-use Rattle.text.specs.Decimal.{decimal}
-use Rattle.text.specs.Listing.{space, refusedLine}
+use Rattle.plan_answers.specs.Planned.{planOf}
+use Rattle.plan_answers.specs.declared.Plan.{Plan}
+use Rattle.decimals.specs.Decimal.{decimal}
+use Rattle.decimals.specs.Worded.{space}
 
 -- `digraph plan {`, `  node [shape=box];`: the first two lines
 abbrev pub header : List ℕ
@@ -88,11 +88,10 @@ drawn file plan m = node file plan m ++ edge file plan m
 unfoldable pub ending : Plan → List ℕ
 ending plan = field totalLabel (plan .total) ++ drawingEnd
 
--- the drawing of a file and its plan; a refused policy's text is that of the listing, `REFUSED`, a space and the number
+-- the drawing of a file and its plan
 unfoldable pub drawing : List ℕ → Plan → List ℕ
-drawing file plan =
-    cond (eqb (plan .refusal) 0) (header ++ concatBelow (drawn file plan) (plan .labels) ++ ending plan) (refusedLine plan)
+drawing file plan = header ++ concatBelow (drawn file plan) (plan .labels) ++ ending plan
 
--- the drawing of a policy file
+-- the drawing of an accepted policy file
 unfoldable pub dotText : List ℕ → List ℕ
 dotText file = drawing file (planOf file)

@@ -1,6 +1,6 @@
 // The plan as a drawing in Graphviz's language.
 use buffers::Written;
-use planner::Plan;
+use plan_answers::Plan;
 ghost use mathlib.Core.Path.{_≡_};
 ghost use Prim.Native.Nat.{_+_, _*_, _≤_, _<_};
 ghost use lib.ListN.{length};
@@ -8,7 +8,7 @@ ghost use Rattle.buffers.specs.Put.{Put};
 ghost use Rattle.lists.specs.Tables.{concatBelow};
 ghost use Rattle.text.specs.Printable.{Printable};
 ghost use Rattle.dot.specs.Drawing.{between, field, fields, node, edge, drawn, ending, drawing};
-ghost use Rattle.dot.specs.Answer.{writtenOf, bufferAfter};
+ghost use Rattle.dot.specs.Answer.{drawingWritten, drawingAfter};
 
 // Writes the names of labels `a` and `b`, with a sign between them.
 fn put_between(policy: &[u8], a: usize, sign: &[u8], b: usize, out: &mut [u8], at: usize) -> usize
@@ -27,7 +27,7 @@ fn put_field(out: &mut [u8], at: usize, word: &[u8], x: u32) -> usize
     ensures { λ r. ⌜ Put (now (out .entry)) (now (out .exit)) at (field (now (word .entry)) x) r ⌝ }
 {
     let behind = buffers::put_bytes(out, at, word);
-    text::put_number(out, behind, x)
+    decimals::put_number(out, behind, x)
 }
 
 // Writes the numbers of a label.
@@ -104,20 +104,20 @@ fn write_dot(policy: &[u8], plan: Plan, out: &mut [u8]) -> usize
     requires { ⌜ Printable (now policy) plan × (length (drawing (now policy) plan) ≤ length (now out)) ⌝ }
     ensures { λ r. ⌜ Put (now (out .entry)) (now (out .exit)) 0 (drawing (now (policy .entry)) plan) r ⌝ }
 {
-    if plan.refusal != 0 {
-        return text::put_worded(out, 0, b"REFUSED", plan.refusal as u32);
-    }
     let start = buffers::put_bytes(out, 0, b"digraph plan {\n  node [shape=box];\n");
     let behind = put_labels(policy, plan, out, start);
     put_ending(out, behind, plan)
 }
 
-// Writes the drawing of a policy file from the buffer's start on, or nothing if it has no room for it.
+// Writes the drawing of an accepted policy file from the buffer's start on, or nothing if it has no room for it.
 // No drawing has more than 7,617 bytes.
 pub fn plan_dot(policy: &[u8], out: &mut [u8]) -> Written
-    ensures { λ r. ⌜ (r ≡ writtenOf (now (policy .entry)) (length (now (out .entry)))) × (now (out .exit) ≡ bufferAfter (now (policy .entry)) (now (out .entry))) ⌝ }
+    ensures { λ r. ⌜ (r ≡ drawingWritten (now (policy .entry)) (length (now (out .entry)))) × (now (out .exit) ≡ drawingAfter (now (policy .entry)) (now (out .entry))) ⌝ }
 {
     let plan = planner::plan_policy(policy);
+    if plan.refusal != 0 {
+        return buffers::refuse(plan.refusal);
+    }
     let mut drawing = [0u8; 8192];
     let length = write_dot(policy, plan, &mut drawing);
     buffers::hand_out(&drawing[..length], out)

@@ -6,8 +6,8 @@ use mathlib.Core.Logic.{_⊎_, inl, inr}
 use mathlib.Core.Path.{_≡_, refl, sym, ap, ap₂, _∙_}
 use native.Mathlib.Nat.{le-refl}
 use native.Mathlib.Omega.{arith}
-use Rattle.desk.specs.File.{isHeld, nameIn, secretIn}
-use Rattle.desk.specs.Whole.{recordsOf}
+use Rattle.envelope_file.specs.File.{isHeld, nameIn, secretIn}
+use Rattle.envelope_file.specs.Whole.{recordsOf}
 use Rattle.trees.proofs.Lists.{answers}
 use Rattle.trees.proofs.Select.{select-yes, select-no}
 use Rattle.trees.specs.Sums.{select}

@@ -7,7 +7,7 @@ use mathlib.Core.Path.{_≡_, refl, ap, _∙_}
 use native.Mathlib.Nat.{le-refl}
 use native.Mathlib.Omega.{arith}
 use lib.ListN.{length, getD, length-append}
-use Rattle.desk.specs.File.{recordSize}
+use Rattle.envelope_file.specs.File.{recordSize}
 use Rattle.trees.proofs.Lists.{answers}
 use Rattle.trees.proofs.Select.{select-yes, select-no}
 use Rattle.trees.proofs.Widths.{size-bound}

@@ -4,8 +4,9 @@ use mathlib.Core.Bool.{Bool, true}
 use mathlib.Core.List.{List}
 use mathlib.Core.Path.{_≡_, ap₂, _∙_}
 use native.Mathlib.Omega.{arith}
-use Rattle.desk.proofs.Labelled.{labels-read, label-names}
-use Rattle.desk.specs.Labels.{namesIn, labelsOf}
+use lib.ListN.{replicate}
+use Rattle.envelope_file.proofs.Labelled.{labels-read, label-names}
+use Rattle.envelope_file.specs.Labels.{namesIn, envelopeLabels}
 use Rattle.format.specs.Bytes.{bytesAt}
 use Rattle.trees.proofs.Order.{test-yes}
 use Rattle.envelopes.specs.Envelope.{placeBelow, envelopeOf}
@@ -21,15 +22,15 @@ module _ {n : ℕ} {R : ℕ → ℕ → Type 0} {le : ℕ → ℕ → Bool} {nam
   file = envelopeOf name le parent root l n account
 
   -- the account, and as many labels as are at or below l
-  pub reads-labels : labelsOf (envelopeOf name le parent root l n account)
-      ≡ record { refusal = 0; account = account; labels = placeBelow le l n; names = namesIn (envelopeOf name le parent root l n account) (placeBelow le l n) }
+  pub reads-labels : envelopeLabels (envelopeOf name le parent root l n account)
+      ≡ record { refusal = 0; zeros = replicate 5 0; account = account; labels = placeBelow le l n; names = namesIn (envelopeOf name le parent root l n account) (placeBelow le l n) }
   reads-labels =
       labels-read file (is-accepted L I)
-      ∙ ap₂ (λ (a k : ℕ). record { refusal = 0; account = a; labels = k; names = namesIn file k }) (account-in L I) (how-many L I)
+      ∙ ap₂ (λ (a k : ℕ). record { refusal = 0; zeros = replicate 5 0; account = a; labels = k; names = namesIn file k }) (account-in L I) (how-many L I)
 
   -- the name of each of them, at its place among them
   pub names-label : (m : ℕ) → m < n → R m l
-      → bytesAt (labelsOf (envelopeOf name le parent root l n account) .names) (8 * placeBelow le l m) 8 ≡ name m
+      → bytesAt (envelopeLabels (envelopeOf name le parent root l n account) .names) (8 * placeBelow le l m) 8 ≡ name m
   names-label m hm r =
       let e : le m l ≡ true = test-yes (L .order) hm (I .label) r in
       label-names file (is-accepted L I) (placeBelow le l m) (omega (arith, how-many L I, place-before le l m n hm e)) ∙ reads-name L I m hm e

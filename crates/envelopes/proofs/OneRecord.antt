@@ -7,7 +7,7 @@ use mathlib.Core.Path.{_≡_, refl, ap, _∙_}
 use native.Mathlib.Omega.{arith}
 use lib.ListN.{length, getD, take, length-append}
 use lib.Seq.{take-at, drop-at, take-all, getD-at}
-use Rattle.desk.specs.File.{recordSize}
+use Rattle.envelope_file.specs.File.{recordSize}
 use Rattle.format.specs.Bytes.{bytesAt}
 use Rattle.format.specs.Marks.{KS, KD}
 use Rattle.trees.proofs.Lists.{answers}

@@ -8,13 +8,13 @@ use native.Mathlib.Omega.{arith}
 use borrow.Author.Tests.{eq-eqb}
 use lib.Dec.{eqb}
 use lib.ListN.{length}
-use Rattle.desk.proofs.Lawful.{falling, names-distinct}
-use Rattle.desk.proofs.Meaning.{name-at, name-none, name-new}
-use Rattle.desk.proofs.Walks.{walk-held, walk-down}
-use Rattle.desk.specs.Derive.{stepDown, walkTo, refusedDerived, derivedAt, onFound, recordAsked, derivedOf}
-use Rattle.desk.specs.File.{nameIn, recordNamed}
-use Rattle.desk.specs.Reads.{Falling}
-use Rattle.desk.specs.declared.Walk.{Walk}
+use Rattle.envelope_file.proofs.Lawful.{falling, names-distinct}
+use Rattle.envelope_file.proofs.Meaning.{name-at, name-none, name-new}
+use Rattle.envelope_file.proofs.Walks.{walk-held, walk-down}
+use Rattle.envelope_file.specs.Derive.{stepDown, walkTo, refusedDerived, derivedAt, onFound, recordAsked, derivedOf}
+use Rattle.envelope_file.specs.File.{nameIn, recordNamed}
+use Rattle.envelope_file.specs.Reads.{Falling}
+use Rattle.envelope_file.specs.declared.Walk.{Walk}
 use Rattle.format.specs.declared.Found.the-variants.{At, Nothing}
 use Rattle.format.specs.declared.Found.{Found}
 use Rattle.hmac.specs.Secrets.{labelKey}

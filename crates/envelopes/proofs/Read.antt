@@ -7,11 +7,11 @@ use mathlib.Core.Path.{_≡_, sym, ap, _∙_, subst}
 use native.Mathlib.Nat.{le-refl}
 use native.Mathlib.Omega.{arith}
 use lib.ListN.{length}
-use Rattle.desk.proofs.Demand1.{accepted-read}
-use Rattle.desk.specs.File.{recordSize, startOf, nameIn, placeIn}
-use Rattle.desk.specs.Rows.{Header, markOf, Named, RecordAt, held, under, Passes, start, next, NoneRefuses}
-use Rattle.desk.specs.Whole.{accepted, contentsOf, recordsOf, Accepted}
-use Rattle.desk.specs.declared.Contents.{Contents}
+use Rattle.envelope_file.proofs.Demand1.{accepted-read}
+use Rattle.envelope_file.specs.File.{recordSize, startOf, nameIn, placeIn}
+use Rattle.envelope_file.specs.Rows.{Header, markOf, Named, RecordAt, held, under, EnvelopePasses, start, next, NoneRefuses}
+use Rattle.envelope_file.specs.Whole.{accepted, contentsOf, recordsOf, AcceptedEnvelope}
+use Rattle.envelope_file.specs.declared.Contents.{Contents}
 use Rattle.format.specs.Form.{NameForm}
 use Rattle.format.specs.Marks.{KS, KD}
 use Rattle.trees.proofs.Lists.{answers}
@@ -68,11 +68,11 @@ module _ {n : ℕ} {R : ℕ → ℕ → Type 0} {le : ℕ → ℕ → Bool} {nam
             let falls : placeIn file (place m) < place m = omega (arith, reads-place L I m hm below e, place-before le l (parent m) m (u .falls) (u .below)) in
             under (record { mark = mark false e; whole = omega (arith, whole false e) }) named (omega arith) falls
 
-  pass : (m : ℕ) → m ≤ n → Passes file (place m)
+  pass : (m : ℕ) → m ≤ n → EnvelopePasses file (place m)
   pass zero h = rw (place-start le l) start
   pass (suc m) h = go (pass m (omega arith)) (answers (le m l))
     where
-      go : Passes file (place m) → (le m l ≡ true) ⊎ (le m l ≡ false) → Passes file (place (suc m))
+      go : EnvelopePasses file (place m) → (le m l ≡ true) ⊎ (le m l ≡ false) → EnvelopePasses file (place (suc m))
       go ih (inl e) = let k : place (suc m) ≡ place m + 1 = omega (arith, place-here le l m e) in rw k (next ih (record-passes m h e))
       go ih (inr e) = rw (place-skip le l m e) ih
 
@@ -89,7 +89,7 @@ module _ {n : ℕ} {R : ℕ → ℕ → Type 0} {le : ℕ → ℕ → Bool} {nam
   pub read-whole : contentsOf (envelopeOf name le parent root l n account) ≡ accepted (envelopeOf name le parent root l n account) (placeBelow le l n)
   read-whole = accepted-read file (place n) none-refuses
 
-  pub is-accepted : Accepted (envelopeOf name le parent root l n account)
+  pub is-accepted : AcceptedEnvelope (envelopeOf name le parent root l n account)
   unfolding accepted
   is-accepted = ap (λ (c : Contents). c .refusal) read-whole
 

@@ -5,8 +5,8 @@ use mathlib.Core.List.{List}
 use mathlib.Core.Path.{_≡_, ap, _∙_}
 use native.Mathlib.Omega.{arith}
 use lib.ListN.{length}
-use Rattle.desk.specs.File.{heldAt, recordSize, startOf, isHeld, nameIn, secretIn, placeIn}
-use Rattle.desk.specs.Rows.{markOf}
+use Rattle.envelope_file.specs.File.{heldAt, recordSize, startOf, isHeld, nameIn, secretIn, placeIn}
+use Rattle.envelope_file.specs.Rows.{markOf}
 use Rattle.format.specs.Bytes.{bytesAt}
 use Rattle.format.specs.Marks.{KS, KD}
 use Rattle.trees.specs.Weights.{inSmallest}

@@ -9,7 +9,7 @@ use native.Mathlib.Nat.{eq-or-lt-of-le, le-of-suc-le-suc, le-refl}
 use native.Mathlib.Omega.{arith}
 use lib.ListN.{length, getD, length-append}
 use lib.Seq.{take-at}
-use Rattle.desk.specs.File.{accountIn, headName, heldAt, recordSize, startOf}
+use Rattle.envelope_file.specs.File.{accountIn, headName, heldAt, recordSize, startOf}
 use Rattle.format.specs.Bytes.{bytesAt, sameBytes}
 use Rattle.format.specs.Marks.{EN, KS, KD}
 use Rattle.trees.proofs.Lists.{answers}

@@ -3,8 +3,8 @@
 use Prim.Native.Nat.{ℕ, zero, suc, _+_, _/_, _%_}
 use mathlib.Core.Bool.{Bool, cond}
 use mathlib.Core.List.{List, [], _∷_, _++_, map}
-use Rattle.desk.specs.File.{isHeld, nameIn, secretIn}
-use Rattle.desk.specs.Whole.{recordsOf}
+use Rattle.envelope_file.specs.File.{isHeld, nameIn, secretIn}
+use Rattle.envelope_file.specs.Whole.{recordsOf}
 use Rattle.format.specs.Marks.{EN, KS, KD}
 use Rattle.trees.specs.Sums.{select}
 use Rattle.trees.specs.Weights.{inSmallest}

@@ -1,9 +1,19 @@
 // A program's arguments, files read into a buffer, a file made whole or not at all. What fails is told on standard error.
+ghost use mathlib.Core.Bool.{true, false, cond};
+ghost use mathlib.Core.Logic.{_↔_};
 ghost use mathlib.Core.Path.{_≡_};
+ghost use lib.ListN.{length};
 ghost use Rattle.io.specs.Counts.{Counts};
+ghost use Rattle.files.specs.Asked.{AsksHelp};
 
 // How many bytes of a file stand at the start of a buffer. Where it could not be read, it is not ok.
 pub struct Read {
+    pub ok: bool,
+    pub length: usize,
+}
+
+// How many bytes a new file has: all of those that were to be saved. Where it could not be made, it is not ok, and has none.
+pub struct Saved {
     pub ok: bool,
     pub length: usize,
 }
@@ -19,16 +29,17 @@ pub fn argument(i: usize, buffer: &mut [u8]) -> usize
     length
 }
 
-// Whether argument i is a word.
-pub fn is_word(i: usize, word: &[u8]) -> bool {
-    let mut typed = io::buffer();
-    let length = argument(i, &mut typed);
-    check::same(&typed[..length], word)
-}
-
-// Whether the first argument asks how the program is called.
-pub fn asks_help() -> bool {
-    is_word(1, b"help") || is_word(1, b"--help") || is_word(1, b"-h")
+// Whether the word that was typed asks how the program is called.
+pub fn asks_help(typed: &[u8]) -> bool
+    ensures { λ r. ⌜ (r ≡ true) ↔ AsksHelp (now (typed .entry)) ⌝ }
+{
+    if check::same(typed, b"help") {
+        return true;
+    }
+    if check::same(typed, b"--help") {
+        return true;
+    }
+    check::same(typed, b"-h")
 }
 
 // Puts the label name that argument i says at the start of the buffer, padded as the operations take it.
@@ -43,7 +54,7 @@ pub fn name_argument(i: usize, name: &mut [u8]) -> usize
 
 // A file that could not be opened or read.
 fn unread(path: &[u8]) -> Read
-    ensures { λ r. ⌜ r .length ≡ 0 ⌝ }
+    ensures { λ r. ⌜ (r .ok ≡ false) × (r .length ≡ 0) ⌝ }
 {
     os::fail(path);
     Read {
@@ -52,15 +63,22 @@ fn unread(path: &[u8]) -> Read
     }
 }
 
-// Reads an open file up to its end or the buffer's. Behind less than a whole buffer one more read has to find the file's end: else
-// one failed.
-fn read_open(fd: i32, path: &[u8], buffer: &mut [u8]) -> Read
+// Reads an open file up to its end or the buffer's. A read that fails is told by the file's name, and nothing counts as read.
+pub fn read_input(fd: i32, name: &[u8], buffer: &mut [u8]) -> Read
     ensures { λ r. ⌜ Counts (r .length) (now (buffer .exit)) ⌝ }
+    ensures { λ r. ⌜ (r .ok ≡ false → r .length ≡ 0) ⌝ }
 {
-    let length = io::read_full(fd, buffer);
-    let mut more = [0u8; 1];
-    if length < buffer.len() && libc::read(fd, &mut more) != 0 {
-        return unread(path);
+    let mut length = 0;
+    while length < buffer.len() {
+        let got = libc::read(fd, &mut buffer[length..]);
+        if got < 0 {
+            return unread(name);
+        }
+        let more = io::count(got, &buffer[length..]);
+        if more == 0 {
+            return Read { ok: true, length };
+        }
+        length += more;
     }
     Read { ok: true, length }
 }
@@ -68,6 +86,7 @@ fn read_open(fd: i32, path: &[u8], buffer: &mut [u8]) -> Read
 // Reads the file that argument i names, up to its end or the buffer's.
 pub fn read_argument(i: usize, buffer: &mut [u8]) -> Read
     ensures { λ r. ⌜ Counts (r .length) (now (buffer .exit)) ⌝ }
+    ensures { λ r. ⌜ (r .ok ≡ false → r .length ≡ 0) ⌝ }
 {
     let mut path = io::buffer();
     let length = argument(i, &mut path);
@@ -75,7 +94,7 @@ pub fn read_argument(i: usize, buffer: &mut [u8]) -> Read
     if fd < 0 {
         return unread(&path[..length]);
     }
-    let read = read_open(fd, &path[..length], buffer);
+    let read = read_input(fd, &path[..length], buffer);
     libc::close(fd);
     read
 }
@@ -134,17 +153,28 @@ fn make(path: &[u8], bytes: &[u8]) -> bool {
 }
 
 // Makes a file with these bytes, never over one that exists. The name is taken first, by an empty file, and the whole file is moved
-// over that. Where something fails nothing is left behind.
-pub fn save(path: &[u8], bytes: &[u8]) -> bool {
+// over that. Where something fails nothing is left behind. Which of the two it is depends on the file system, of which no contract speaks.
+pub fn save(path: &[u8], bytes: &[u8]) -> Saved
+    ensures { λ r. ⌜ r .length ≡ cond (r .ok) (length (now (bytes .entry))) 0 ⌝ }
+{
     let taken = os::create(path);
     if taken < 0 {
         os::fail(path);
-        return false;
+        return Saved {
+            ok: false,
+            length: 0,
+        };
     }
     libc::close(taken);
     if make(path, bytes) {
-        return true;
+        return Saved {
+            ok: true,
+            length: bytes.len(),
+        };
     }
     os::unlink(path);
-    false
+    Saved {
+        ok: false,
+        length: 0,
+    }
 }

@@ -8,7 +8,7 @@ use lib.ListN.{length, drop, length-append, length-take}
 use Rattle.envelopes.proofs.Secrets.{secret-length}
 use Rattle.envelopes.specs.Envelope.{heldRecord, underRecord, header, placeBelow, recordOf, recordsBelow, envelopeOf}
 use Rattle.envelopes.specs.Secrets.{secretOf}
-use Rattle.policy.specs.File.{nameOf}
+use Rattle.policy_file.specs.File.{nameOf}
 use Rattle.trees.specs.Weights.{inSmallest}
 
 module _ (policy : List ℕ) (le : ℕ → ℕ → Bool) (parent : ℕ → ℕ) (root : List ℕ) (l : ℕ) where

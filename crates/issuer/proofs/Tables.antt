@@ -7,39 +7,38 @@ use native.Mathlib.Omega.{arith}
 use borrow.Author.Tests.{eq-eqb}
 use lib.ListN.{length}
 use lib.Seq.{take-all}
-use Rattle.envelopes.specs.Envelope.{envelopeOf}
-use Rattle.envelopes.specs.Secrets.{secretOf, keyOf}
+use Rattle.envelopes.specs.Secrets.{keyOf}
 use Rattle.format.specs.Bytes.{bytesAt}
 use Rattle.format.specs.declared.Found.the-variants.{At}
 use Rattle.format.specs.declared.Found.{Found}
 use Rattle.hmac.specs.Secrets.{labelKey}
-use Rattle.order.specs.Table.{atOrBelow}
-use Rattle.planner.proofs.PlanAnswer.{plan-answer-tree}
-use Rattle.planner.proofs.PolicyOrder.{policy-order}
-use Rattle.planner.proofs.WorkedTables.{table-rowed}
-use Rattle.planner.specs.Planned.{testOf, planned, planOf, rowsAfter}
-use Rattle.planner.specs.declared.Plan.{Plan}
-use Rattle.policy.proofs.Lawful.{lawful}
-use Rattle.policy.proofs.Verdict.{bounds}
-use Rattle.policy.specs.File.{nameOf, countOf}
-use Rattle.policy.specs.Whole.{refusalOf, labelsOf, Accepted, orderOf}
+use Rattle.plan_answers.proofs.PlanAnswer.{plan-answer-tree}
+use Rattle.plan_answers.proofs.PolicyOrder.{policy-order}
+use Rattle.plan_answers.proofs.WorkedTables.{table-rowed}
+use Rattle.plan_answers.specs.Planned.{atOrBelow, planned, planOf, rowsAfter}
+use Rattle.plan_answers.specs.declared.Plan.{Plan}
+use Rattle.policy_file.proofs.Lawful.{lawful}
+use Rattle.policy_file.proofs.Verdict.{bounds}
+use Rattle.policy_file.specs.File.{nameOf, countOf}
+use Rattle.policy_file.specs.Whole.{policyRefusal, labelCount, AcceptedPolicy, orderOf}
 use Rattle.trees.proofs.Order.{above-lower}
 use Rattle.trees.specs.Trees.{top}
 use Rattle.weights.specs.Tables.{entries, parentTable}
-use Rattle.writer.proofs.Hanging.{hung-fewer}
-use Rattle.writer.specs.Asks.{Hung}
-use Rattle.issuer.specs.Issue.{envelopeFor}
-use Rattle.issuer.specs.Keys.{labelKeyOf, labelAsked}
-use Rattle.issuer.proofs.Asked.{asked-below}
+use Rattle.secrets.proofs.Hanging.{hung-fewer}
+use Rattle.secrets.specs.Asks.{Hung, tableSecret}
+use Rattle.writer.specs.Tabled.{tableEnvelope}
+use Rattle.issuer_answers.specs.Issue.{accountEnvelope}
+use Rattle.issuer_answers.specs.Keys.{labelKeyOf, labelAsked}
+use Rattle.issuer_answers.proofs.Asked.{asked-below}
 
 module _ (policy : List ℕ) where
   -- the top's entry is below 64 as every other
   under-top : entries (planOf policy .parents) top < 64
   unfolding planOf planned parentTable
-  under-top = table-rowed (labelsOf policy) (countOf policy) (testOf policy) 1 (bounds policy .0) top (omega arith)
+  under-top = table-rowed (labelCount policy) (countOf policy) (atOrBelow policy) 1 (bounds policy .0) top (omega arith)
 
   -- the plan's parents have smaller numbers than their labels
-  pub hung : Accepted policy → Hung policy (planOf policy .parents) (labelsOf policy)
+  pub hung : AcceptedPolicy policy → Hung policy (planOf policy .parents) (labelCount policy)
   hung ok = record {
     few = lawful policy ok .fewLabels;
     within = omega (arith, lawful policy ok .whole);
@@ -49,23 +48,23 @@ module _ (policy : List ℕ) where
 
   -- what `plan_policy` and `plan_order` answer
   module _ {plan : Plan} (same : plan ≡ planOf policy) where
-    pub plan-number : plan .refusal ≡ refusalOf policy
+    pub plan-number : plan .refusal ≡ policyRefusal policy
     unfolding planOf planned
     plan-number = ap (λ (p : Plan). p .refusal) same
 
-    pub plan-labels : plan .labels ≡ labelsOf policy
+    pub plan-labels : plan .labels ≡ labelCount policy
     unfolding planOf planned
     plan-labels = ap (λ (p : Plan). p .labels) same
 
     pub plan-within : 12 * plan .labels ≤ length policy
     plan-within = omega (arith, plan-labels, bounds policy .2)
 
-    pub plan-accepted : plan .refusal ≡ 0 → Accepted policy
+    pub plan-accepted : plan .refusal ≡ 0 → AcceptedPolicy policy
     plan-accepted e = sym plan-number ∙ e
 
     pub plan-rows : plan .refusal ≡ 0 → (rows : List (List Bool)) → rowsAfter policy rows ≡ orderOf policy
     unfolding rowsAfter
-    plan-rows e rows = rw (eq-eqb (refusalOf policy) 0 (plan-accepted e))
+    plan-rows e rows = rw (eq-eqb (policyRefusal policy) 0 (plan-accepted e))
 
     pub plan-hung : plan .refusal ≡ 0 → Hung policy (plan .parents) (plan .labels)
     unfolding planOf planned
@@ -73,7 +72,7 @@ module _ (policy : List ℕ) where
 
     -- the label asked for, once it is looked for
     module _ (name : List ℕ) {found : Found} (asked : found ≡ labelAsked policy (plan .labels) name) where
-      pub asked-told : {f : Found} → found ≡ f → labelAsked policy (labelsOf policy) name ≡ f
+      pub asked-told : {f : Found} → found ≡ f → labelAsked policy (labelCount policy) name ≡ f
       asked-told told = ap (λ (n : ℕ). labelAsked policy n name) (sym plan-labels) ∙ sym asked ∙ told
 
       pub told-below : {l : ℕ} → found ≡ At l → l < plan .labels
@@ -91,18 +90,18 @@ module _ (policy : List ℕ) where
       pub root-read : read ≡ root
       root-read = start ∙ take-all 32 root (omega arith)
 
-      pub key-made : (l : ℕ) {secret own key : List ℕ} → secret ≡ secretOf (nameOf policy) (entries (plan .parents)) read l → own ≡ nameOf policy l
+      pub key-made : (l : ℕ) {secret own key : List ℕ} → secret ≡ tableSecret policy (plan .parents) read l → own ≡ nameOf policy l
           → key ≡ labelKey secret own → key ≡ labelKeyOf policy root l
       unfolding labelKeyOf keyOf
       key-made l s n k =
           k
           ∙ ap₂ labelKey
-          (s ∙ ap₂ (λ (p : Plan) (r : List ℕ). secretOf (nameOf policy) (entries (p .parents)) r l) same root-read)
+          (s ∙ ap₂ (λ (p : Plan) (r : List ℕ). tableSecret policy (p .parents) r l) same root-read)
           n
 
       pub envelope-made : (l account : ℕ) {rows : List (List Bool)} → rows ≡ orderOf policy
-          → envelopeOf (nameOf policy) (atOrBelow rows) (entries (plan .parents)) read l (plan .labels) account ≡ envelopeFor policy root l account
-      unfolding envelopeFor planOf planned
+          → tableEnvelope policy rows (plan .parents) read l (plan .labels) account ≡ accountEnvelope policy root l account
+      unfolding accountEnvelope planOf planned
       envelope-made l account t =
-          ap (λ (rs : List (List Bool)). envelopeOf (nameOf policy) (atOrBelow rs) (entries (plan .parents)) read l (plan .labels) account) t
-          ∙ ap₂ (λ (p : Plan) (r : List ℕ). envelopeOf (nameOf policy) (testOf policy) (entries (p .parents)) r l (p .labels) account) same root-read
+          ap (λ (rs : List (List Bool)). tableEnvelope policy rs (plan .parents) read l (plan .labels) account) t
+          ∙ ap₂ (λ (p : Plan) (r : List ℕ). tableEnvelope policy (orderOf policy) (p .parents) r l (p .labels) account) same root-read

@@ -1,30 +1,15 @@
 // The issuer's keys, and key envelopes written for accounts of a policy.
+use buffers::Written;
 use format::Found;
+use issuer_answers::IssuerKey;
 ghost use mathlib.Core.Path.{_≡_};
 ghost use Prim.Native.Nat.{_+_, _*_, _≤_, _<_};
 ghost use lib.ListN.{length};
 ghost use Rattle.buffers.specs.Handed.{handed, handedInto};
-ghost use Rattle.order.specs.Table.{atOrBelow};
-ghost use Rattle.policy.specs.File.{nameOf};
-ghost use Rattle.weights.specs.Tables.{entries};
-ghost use Rattle.envelopes.specs.Envelope.{envelopeOf};
-ghost use Rattle.writer.specs.Asks.{Hung};
-ghost use Rattle.issuer.specs.Keys.{labelAsked, refusedKey, issuerKeyOf};
-ghost use Rattle.issuer.specs.Issue.{accountRefusal, refusedIssue, issued, issuedOf, bufferAfter};
-
-// A label's key; zeros with a refusal.
-#[repr(C)]
-pub struct IssuerKey {
-    pub refusal: u8,
-    pub key: [u8; 32],
-}
-
-// The length of the envelope written; 0 with a refusal.
-#[repr(C)]
-pub struct Issued {
-    pub refusal: u8,
-    pub length: usize,
-}
+ghost use Rattle.secrets.specs.Asks.{Hung};
+ghost use Rattle.writer.specs.Tabled.{tableEnvelope};
+ghost use Rattle.issuer_answers.specs.Keys.{labelAsked, refusedKey, issuerKeyOf};
+ghost use Rattle.issuer_answers.specs.Issue.{accountRefusal, issuedOf, envelopeAfter};
 
 // The label that has the name asked for; none if that has not 8 bytes.
 fn asked_label(policy: &[u8], labels: usize, name: &[u8]) -> Found
@@ -34,7 +19,7 @@ fn asked_label(policy: &[u8], labels: usize, name: &[u8]) -> Found
     if name.len() != 8 {
         return Found::Nothing;
     }
-    policy::find_name(policy, labels, format::read_name(name, 0))
+    policy_record::find_name(policy, labels, format::read_name(name, 0))
 }
 
 // The answer of `issuer_key` with a refusal.
@@ -61,7 +46,7 @@ pub fn issuer_key(policy: &[u8], name: &[u8], root: &[u8]) -> IssuerKey
                 return refuse_key(15);
             }
             let parents = plan.parents;
-            let secret = writer::secret_of(policy, &parents, format::read_secret(root, 0), l);
+            let secret = secrets::secret_of(policy, &parents, format::read_secret(root, 0), l);
             IssuerKey {
                 refusal: 0,
                 key: hmac::label_key(secret, format::read_name(policy, 12 * l + 2)),
@@ -88,16 +73,6 @@ fn account_refusal(policy: &[u8], l: usize, account: u32, root: &[u8]) -> u8
     0
 }
 
-// The answer of `issue` with a refusal.
-fn refuse_issue(number: u8) -> Issued
-    ensures { λ r. ⌜ r ≡ refusedIssue number ⌝ }
-{
-    Issued {
-        refusal: number,
-        length: 0,
-    }
-}
-
 // Hands out the envelope of an account at label `l`. No envelope has more than 2,700 bytes.
 fn issue_label(
     policy: &[u8],
@@ -108,9 +83,9 @@ fn issue_label(
     l: usize,
     account: u32,
     envelope: &mut [u8],
-) -> Issued
+) -> Written
     requires { ⌜ Hung (now policy) (now parents) labels × (l < labels) ⌝ }
-    ensures { λ r. ⌜ (r ≡ issued (handed (envelopeOf (nameOf (now (policy .entry))) (atOrBelow (now (rows .entry))) (entries (now (parents .entry))) root l labels account) (length (now (envelope .entry))))) × (now (envelope .exit) ≡ handedInto (envelopeOf (nameOf (now (policy .entry))) (atOrBelow (now (rows .entry))) (entries (now (parents .entry))) root l labels account) (now (envelope .entry))) ⌝ }
+    ensures { λ r. ⌜ (r ≡ handed (tableEnvelope (now (policy .entry)) (now (rows .entry)) (now (parents .entry)) root l labels account) (length (now (envelope .entry)))) × (now (envelope .exit) ≡ handedInto (tableEnvelope (now (policy .entry)) (now (rows .entry)) (now (parents .entry)) root l labels account) (now (envelope .entry))) ⌝ }
 {
     let mut written = [0u8; 2700];
     let length = writer::write_envelope(
@@ -123,27 +98,23 @@ fn issue_label(
         account,
         &mut written,
     );
-    let answer = buffers::hand_out(&written[..length], envelope);
-    Issued {
-        refusal: answer.refusal,
-        length: answer.length,
-    }
+    buffers::hand_out(&written[..length], envelope)
 }
 
 // Writes the envelope of an account at the label asked for from the buffer's start on, or nothing if it is refused.
-pub fn issue(policy: &[u8], name: &[u8], account: u32, root: &[u8], envelope: &mut [u8]) -> Issued
-    ensures { λ r. ⌜ (r ≡ issuedOf (now (policy .entry)) (now (name .entry)) account (now (root .entry)) (length (now (envelope .entry)))) × (now (envelope .exit) ≡ bufferAfter (now (policy .entry)) (now (name .entry)) account (now (root .entry)) (now (envelope .entry))) ⌝ }
+pub fn issue(policy: &[u8], name: &[u8], account: u32, root: &[u8], envelope: &mut [u8]) -> Written
+    ensures { λ r. ⌜ (r ≡ issuedOf (now (policy .entry)) (now (name .entry)) account (now (root .entry)) (length (now (envelope .entry)))) × (now (envelope .exit) ≡ envelopeAfter (now (policy .entry)) (now (name .entry)) account (now (root .entry)) (now (envelope .entry))) ⌝ }
 {
     let mut rows = [[false; 64]; 64];
     let planned = planner::plan_order(policy, &mut rows);
     if planned.refusal != 0 {
-        return refuse_issue(planned.refusal);
+        return buffers::refuse(planned.refusal);
     }
     match asked_label(policy, planned.labels, name) {
         Found::At(l) => {
             let number = account_refusal(policy, l, account, root);
             if number != 0 {
-                return refuse_issue(number);
+                return buffers::refuse(number);
             }
             let parents = planned.parents;
             let secret = format::read_secret(root, 0);
@@ -158,6 +129,6 @@ pub fn issue(policy: &[u8], name: &[u8], account: u32, root: &[u8], envelope: &m
                 envelope,
             )
         }
-        Found::Nothing => refuse_issue(13),
+        Found::Nothing => buffers::refuse(13),
     }
 }

@@ -23,7 +23,7 @@ fn print_weighed(policy: &[u8], tree: &[u8]) {
         tell_refused(policy, weighed.refusal);
         return;
     }
-    if messages::answer_number(b"TOTAL", weighed.total as u64) {
+    if messages::answer_total(weighed.total).ok {
         if weighed.least {
             messages::answer(b"LEAST yes");
         } else {
@@ -34,7 +34,7 @@ fn print_weighed(policy: &[u8], tree: &[u8]) {
 
 // `weigh POLICY TREE`
 fn weigh() {
-    // Longer files have the answer of their first 4,096 bytes (`weigh-front`, `weigh-tree-front`, crate planner).
+    // Longer files have the answer of their first 4,096 bytes (`weigh-front`, `weigh-tree-front`, crate plan_answers).
     let mut policy = io::buffer();
     let policy_read = files::read_argument(2, &mut policy);
     let mut tree = io::buffer();
@@ -59,7 +59,7 @@ fn print_key(policy: &[u8], name: &[u8], root: &[u8]) {
 
 // `key POLICY NAME ROOTFILE`
 fn key() {
-    // As for `weigh` (`key-front`, `key-root-front`, crate issuer).
+    // As for `weigh` (`key-front`, `key-root-front`, crate issuer_answers).
     let mut policy = io::buffer();
     let policy_read = files::read_argument(2, &mut policy);
     let mut root = io::buffer();
@@ -87,14 +87,15 @@ fn save_envelope(policy: &[u8], name: &[u8], account: u32, root: &[u8], out: &[u
         return;
     }
     let length = issued.length;
-    if files::save(out, &envelope[..length]) {
-        messages::answer_number(b"ISSUED", length as u64);
+    let saved = files::save(out, &envelope[..length]);
+    if saved.ok {
+        messages::answer_issued(saved.length);
     }
 }
 
 // `issue POLICY NAME ACCOUNT ROOTFILE OUT`, for the account number that was read
 fn issue(account: u32) {
-    // As for `weigh` (`buffer-front`, `buffer-root-front`, crate issuer).
+    // As for `weigh` (`buffer-front`, `buffer-root-front`, crate issuer_answers).
     let mut policy = io::buffer();
     let policy_read = files::read_argument(2, &mut policy);
     let mut root = io::buffer();
@@ -128,17 +129,23 @@ fn issue_typed() {
     }
 }
 
-fn main() {
-    let count = os::arg_count();
-    if count == 4 && files::is_word(1, b"weigh") {
+// What is asked for by so many arguments, the first of them a verb.
+fn run(count: usize, verb: &[u8]) {
+    if count == 4 && check::same(verb, b"weigh") {
         weigh();
-    } else if count == 5 && files::is_word(1, b"key") {
+    } else if count == 5 && check::same(verb, b"key") {
         key();
-    } else if count == 7 && files::is_word(1, b"issue") {
+    } else if count == 7 && check::same(verb, b"issue") {
         issue_typed();
-    } else if count == 2 && files::asks_help() {
+    } else if count == 2 && files::asks_help(verb) {
         messages::written(usage::print(STDOUT_FILENO));
     } else {
         usage::print(STDERR_FILENO);
     }
+}
+
+fn main() {
+    let mut verb = io::buffer();
+    let length = files::argument(1, &mut verb);
+    run(os::arg_count(), &verb[..length]);
 }

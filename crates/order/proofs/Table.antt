@@ -11,7 +11,7 @@ use lib.ListN.{length, getD, replicate, getD-replicate, length-set}
 use lib.Seq.{getD-set-same, getD-set-other}
 use borrow.Author.Tests.{eqb-true, eq-eqb}
 use Rattle.order.specs.declared.Pair.{Pair}
-use Rattle.order.specs.Table.{noRow, alone, rowAt, joined, linked, rowUpTo, labelRow, rowsBelow, atOrBelow}
+use Rattle.order.specs.Table.{noRow, alone, rowAt, joined, linked, rowUpTo, labelRow, rowsBelow, entryAt}
 use Rattle.order.proofs.Lists.{getD-replicate-all, or-yes, yes-or, or-yes-right, and-left, and-right}
 
 -- the row of one label alone: 64 entries, yes of that label and of no other
@@ -29,7 +29,7 @@ alone-only m l h = go (ℕ-discrete l m)
     go (no ne) = absurd (false≢true (sym (getD-replicate-all 64 l false) ∙ (rw (getD-set-other noRow m l) at h)))
 
 -- no row has a yes before the first label is gone through
-pub none-yet : (k m l : ℕ) → atOrBelow (replicate k noRow) m l ≡ false
+pub none-yet : (k m l : ℕ) → entryAt (replicate k noRow) m l ≡ false
 none-yet zero m l = refl
 none-yet (suc k) zero l = getD-replicate-all 64 l false
 none-yet (suc k) (suc m) l = none-yet k m l
@@ -85,7 +85,7 @@ module _ (rows : List (List Bool)) (leads : ℕ → Bool) (m l : ℕ) where
   row-self h e (suc u) = with-keeps (leads u) (rowUpTo rows leads m u) u (row-self h e u)
 
   -- and at or below what is above a label that leads down to it
-  pub row-adds : (k u : ℕ) → u < k → leads u ≡ true → atOrBelow rows u l ≡ true → getD (rowUpTo rows leads m k) l false ≡ true
+  pub row-adds : (k u : ℕ) → u < k → leads u ≡ true → entryAt rows u l ≡ true → getD (rowUpTo rows leads m k) l false ≡ true
   unfolding rowUpTo
   row-adds zero u h e b = absurd (omega arith)
   row-adds (suc v) u h e b = go (ℕ-discrete u v) (λ lt. row-adds v u lt e b)
@@ -98,7 +98,7 @@ module _ (rows : List (List Bool)) (leads : ℕ → Bool) (m l : ℕ) where
 
   -- and at or below nothing else
   abbrev pub Source : ℕ → Type 0
-  Source k = (l ≡ m) ⊎ ((u : ℕ) × (u < k) × (leads u ≡ true) × (atOrBelow rows u l ≡ true))
+  Source k = (l ≡ m) ⊎ ((u : ℕ) × (u < k) × (leads u ≡ true) × (entryAt rows u l ≡ true))
 
   pub row-only : (k : ℕ) → getD (rowUpTo rows leads m k) l false ≡ true → Source k
   unfolding rowUpTo
@@ -116,7 +116,7 @@ module _ (rows : List (List Bool)) (leads : ℕ → Bool) (m l : ℕ) where
       go false e h before = later (before h)
       go true e h before = from (or-yes (getD row l false) (getD (rowAt rows u) l false) (sym (joined-at row (rowAt rows u) l) ∙ h))
         where
-          from : (getD row l false ≡ true) ⊎ (atOrBelow rows u l ≡ true) → Source (suc u)
+          from : (getD row l false ≡ true) ⊎ (entryAt rows u l ≡ true) → Source (suc u)
           from (inl a) = later (before a)
           from (inr b) = inr (u, omega arith, e, b)
 

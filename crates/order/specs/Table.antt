@@ -8,7 +8,7 @@ use lib.Dec.{eqb}
 use lib.ListN.{getD, replicate, set}
 use Rattle.order.specs.declared.Pair.{Pair}
 
--- entry l of row m, and no past the table's ends
+-- entry l of row m, and no past the table's ends; of the order table: whether label m is at or below label l; of the order table: whether label m is at or below label l
 abbrev pub entryAt : List (List Bool) → ℕ → ℕ → Bool
 entryAt rows m l = getD (getD rows m []) l false
 
@@ -56,7 +56,3 @@ rowsBelow (suc n) leads = let rows = rowsBelow n leads in set rows n (labelRow r
 -- the table of a policy's labels and over-pairs; a label count above 64 counts as 64
 unfoldable pub orderTable : ℕ → List Pair → List (List Bool)
 orderTable labels pairs = rowsBelow (min labels 64) (linked pairs)
-
--- "at or below", by the table
-abbrev pub atOrBelow : List (List Bool) → ℕ → ℕ → Bool
-atOrBelow rows m l = entryAt rows m l

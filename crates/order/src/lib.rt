@@ -2,7 +2,7 @@
 ghost use Prim.Native.Nat.{min, _<_, _≤_};
 ghost use mathlib.Core.Path.{_≡_};
 ghost use lib.ListN.{take};
-ghost use Rattle.order.specs.Table.{entryAt, alone, rowAt, joined, Links, labelRow, orderTable, atOrBelow};
+ghost use Rattle.order.specs.Table.{entryAt, alone, rowAt, joined, Links, labelRow, orderTable};
 
 // An over-pair, the numbers of one `OV` record.
 #[repr(C)]
@@ -114,7 +114,7 @@ pub fn order_table(labels: usize, pairs: usize, over: [Pair; 512]) -> [[bool; 64
 // Whether label `m` is at or below label `l`.
 pub fn at_or_below(rows: &[[bool; 64]; 64], m: usize, l: usize) -> bool
     requires { ⌜ (m < 64) × (l < 64) ⌝ }
-    ensures { λ r. ⌜ r ≡ atOrBelow (now (rows .entry)) m l ⌝ }
+    ensures { λ r. ⌜ r ≡ entryAt (now (rows .entry)) m l ⌝ }
 {
     rows[m][l]
 }

@@ -1,132 +1,193 @@
 -- Laws of the whole file, read record by record.
 use Prim.Native.Nat.{ℕ, suc, _+_, _-_, _≤_, _<_}
-use mathlib.Core.Bool.{Bool, true, false, or-true, or-false}
-use mathlib.Core.List.{List}
+use mathlib.Core.Bool.{Bool, true, false, _||_, or-true, or-false}
+use mathlib.Core.List.{List, [], _∷_}
+use mathlib.Core.Logic.{inl, inr}
 use mathlib.Core.Path.{_≡_, refl, sym, ap, _∙_}
+use native.Mathlib.Decide.{ℕ-discrete}
 use native.Mathlib.Numerals.{add-one}
 use native.Mathlib.Omega.{arith}
+use lib.Dec.{eqb}
 use lib.ListN.{length, getD, set, replicate}
 use borrow.Author.Tests.{eq-eqb, ne-eqb}
-use Rattle.order.specs.declared.Pair.{Pair}
-use Rattle.policy.proofs.Meaning.{label-iff, over-iff}
-use Rattle.policy.specs.File.{placeOf, pairAt}
-use Rattle.policy.specs.Record.{kindAt, withName, recordAt}
+use denote.Enum.Declared.{tagOf}
+use types.Run.{OneOf}
 use Rattle.lists.proofs.Listed.{listed-set}
-use Rattle.lists.proofs.Tables.{getD-listed}
-use Rattle.lists.specs.Tables.{someBelow, everyBelow, listed}
-use Rattle.policy.specs.Whole.{refused, isLowerOf, isLower, isPlaced, stopAt, scanFrom, stopOf, onStop, scanned}
-use Rattle.policy.specs.declared.Kind.the-variants.{Label, Over, End, Refused}
-use Rattle.policy.specs.declared.Record.{Record}
-use Rattle.policy.specs.declared.Stop.{Stop}
-
--- the check at the end: label 0 needs no pair, any other is placed exactly when it is the lower of one
-module _ (file : List ℕ) (labels pairs : ℕ) where
-  pub placed-top : everyBelow (isPlaced file labels pairs) 1 ≡ true
-  unfolding everyBelow isPlaced
-  placed-top = refl
-
-  pub placed-lower : (m : ℕ) → isLower file labels pairs m ≡ true → isPlaced file labels pairs m ≡ true
-  unfolding isPlaced
-  placed-lower m e = rw (e, or-true)
-
-  pub unplaced : (m : ℕ) → 1 ≤ m → isLower file labels pairs m ≡ false → isPlaced file labels pairs m ≡ false
-  unfolding isPlaced
-  unplaced m h e = rw (ne-eqb m 0 (omega arith), e)
+use Rattle.lists.proofs.Tables.{every-all, every-miss, getD-listed}
+use Rattle.lists.specs.Tables.{someBelow, listed}
+use Rattle.order.specs.declared.Pair.{Pair}
+use Rattle.policy_file.proofs.Meaning.{label-iff, over-iff}
+use Rattle.policy_file.specs.File.{placeOf}
+use Rattle.policy_file.specs.Record.{policyKind, kindNumber, withName, recordAt}
+use Rattle.policy_file.specs.Whole.{noPair, withLabel, withPair, refusedThere, scanFrom, stopOf, isLowerOf, isLower, isPlaced, allPlaced, refusedPolicy, atEnd, onStop, policyOf}
+use Rattle.policy_file.proofs.Kind.{the-type}
+use Rattle.policy_file.specs.declared.Kind.the-variants.{Label, Over, End, Refused}
+use Rattle.policy_file.specs.declared.Kind.{Kind}
+use Rattle.policy_file.specs.declared.Record.{Record}
+use Rattle.policy_file.specs.declared.Policy.{Policy}
 
 -- which numbers are the lower of a pair, as pair after pair is gone through
-module _ (file : List ℕ) (labels : ℕ) where
-  pub no-lowers : replicate 256 false ≡ listed (isLower file labels 0) 256
+module _ (over : List Pair) where
+  pub no-lowers : replicate 256 false ≡ listed (isLower over 0) 256
   unfolding listed isLower someBelow
   no-lowers = refl
 
-  pub lowers-more : (k : ℕ) → pairAt file labels k .lower < 256
-      → set (listed (isLower file labels k) 256) (pairAt file labels k .lower) true ≡ listed (isLower file labels (k + 1)) 256
+  pub lowers-more : (k : ℕ) → getD over k noPair .lower < 256
+      → set (listed (isLower over k) 256) (getD over k noPair .lower) true ≡ listed (isLower over (k + 1)) 256
   unfolding isLower isLowerOf someBelow
   lowers-more k h =
-      listed-set (isLower file labels k) (isLower file labels (k + 1)) 256 (pairAt file labels k .lower) true h
-      (rw (add-one, eq-eqb (pairAt file labels k .lower) (pairAt file labels k .lower) refl, or-true))
-      (λ m lt ne. rw (add-one, ne-eqb (pairAt file labels k .lower) m (λ e. ne (sym e)), or-false))
+      listed-set (isLower over k) (isLower over (k + 1)) 256 (getD over k noPair .lower) true h
+      (rw (add-one, eq-eqb (getD over k noPair .lower) (getD over k noPair .lower) refl, or-true))
+      (λ m lt ne. rw (add-one, ne-eqb (getD over k noPair .lower) m (λ e. ne (sym e)), or-false))
 
-  pub lower-at : (pairs : ℕ) (found : List Bool) (m : ℕ) → found ≡ listed (isLower file labels pairs) 256 → m < 256 → getD found m false ≡ isLower file labels pairs m
-  lower-at pairs found m e h = rw e (getD-listed (isLower file labels pairs) 256 m false h)
+-- the check at the end: label 0 needs no pair, any other is placed exactly when it is the lower of one
+module _ (over : List Pair) (pairs : ℕ) where
+  placed : (m : ℕ) → (1 ≤ m → isLower over pairs m ≡ true) → isPlaced over pairs m ≡ true
+  unfolding isPlaced
+  placed m e = go (ℕ-discrete m 0)
+    where
+      go : Dec (m ≡ 0) → eqb m 0 || isLower over pairs m ≡ true
+      go (yes z) = rw (eq-eqb m 0 z)
+      go (no d) = rw (e (omega arith), or-true)
+
+  unplaced : (m : ℕ) → 1 ≤ m → isLower over pairs m ≡ false → isPlaced over pairs m ≡ false
+  unfolding isPlaced
+  unplaced m h e = rw (ne-eqb m 0 (omega arith), e)
+
+-- the labels from 1 up to m are lowers
+abbrev pub LowersBelow : List Bool → ℕ → Type 0
+LowersBelow lower m = (i : ℕ) → 1 ≤ i → i < m → getD lower i false ≡ true
+
+pub lowers-next : (lower : List Bool) (m : ℕ) → LowersBelow lower m → getD lower m false ≡ true → LowersBelow lower (m + 1)
+lowers-next lower m before here i a b = go (ℕ-discrete i m)
+  where
+    go : Dec (i ≡ m) → getD lower i false ≡ true
+    go (yes e) = rw e here
+    go (no d) = before i a (omega arith)
+
+module _ (over : List Pair) (pairs labels m : ℕ) (lower : List Bool) (found : lower ≡ listed (isLower over pairs) 256) (few : labels ≤ 64) where
+  lower-at : (i : ℕ) → i < labels → isLower over pairs i ≡ getD lower i false
+  lower-at i h = rw found (sym (getD-listed (isLower over pairs) 256 i false (omega arith)))
+
+  pub all-found : labels ≤ m → LowersBelow lower m → allPlaced labels pairs over ≡ true
+  all-found h all =
+      every-all (isPlaced over pairs) labels (λ i l. placed over pairs i (λ one. lower-at i l ∙ all i one (omega arith)))
+
+  pub one-missing : 1 ≤ m → m < labels → getD lower m false ≡ false → allPlaced labels pairs over ≡ false
+  one-missing h l e = every-miss (isPlaced over pairs) labels m l (unplaced over pairs m h (lower-at m l ∙ e))
 
 -- the kind of a record that was read
-pub kind-of : (file : List ℕ) (labels pairs : ℕ) (r : Record) → r ≡ recordAt file labels pairs → kindAt file labels pairs ≡ r .kind
+pub kind-of : (file : List ℕ) (labels pairs : ℕ) (r : Record) → r ≡ recordAt file labels pairs → policyKind file labels pairs ≡ r .kind
 unfolding recordAt withName
 kind-of file labels pairs r e = sym (ap (λ (x : Record). x .kind) e)
 
 -- one record more: a label, a pair, the end, a refusal
-module _ (n : ℕ) (file : List ℕ) (labels pairs : ℕ) where
-  pub scan-label : (count : ℕ) → kindAt file labels pairs ≡ Label count
-      → scanFrom (suc n) file labels pairs ≡ scanFrom n file (labels + 1) pairs
+module _ (n : ℕ) (file : List ℕ) (s : Policy) where
+  pub scan-label : (count : ℕ) → policyKind file (s .labels) (s .pairs) ≡ Label count → scanFrom (suc n) file s ≡ scanFrom n file (withLabel s count)
   unfolding scanFrom
   scan-label count e = rw e
 
-  pub scan-over : (pair : Pair) → kindAt file labels pairs ≡ Over pair
-      → scanFrom (suc n) file labels pairs ≡ scanFrom n file labels (pairs + 1)
+  pub scan-over : (pair : Pair) → policyKind file (s .labels) (s .pairs) ≡ Over pair → scanFrom (suc n) file s ≡ scanFrom n file (withPair s pair)
   unfolding scanFrom
   scan-over pair e = rw e
 
-  pub scan-end : kindAt file labels pairs ≡ End → scanFrom (suc n) file labels pairs ≡ stopAt 0 labels pairs
+  pub scan-end : policyKind file (s .labels) (s .pairs) ≡ End → scanFrom (suc n) file s ≡ s
   unfolding scanFrom
   scan-end e = rw e
 
-  pub scan-refused : (number : ℕ) → kindAt file labels pairs ≡ Refused number → scanFrom (suc n) file labels pairs ≡ stopAt number labels pairs
+  pub scan-refused : (number : ℕ) → policyKind file (s .labels) (s .pairs) ≡ Refused number → scanFrom (suc n) file s ≡ refusedThere s number
   unfolding scanFrom
   scan-refused number e = rw e
 
--- what holds behind so many labels and pairs: they lie within the file, and the stop is that of the rest
-pub record Reading (file : List ℕ) (labels pairs : ℕ) : Type 0 where
-  pub few : labels ≤ 64
-  pub fewPairs : pairs ≤ 512
-  pub within : placeOf labels pairs ≤ length file
-  pub rest : stopOf file ≡ scanFrom (577 - (labels + pairs)) file labels pairs
+-- what is read so far
+abbrev pub soFar : ℕ → ℕ → List ℕ → List Pair → Policy
+soFar labels pairs counts over = record { refusal = 0; zeros = replicate 7 0; labels = labels; pairs = pairs; counts = counts; over = over }
 
-pub reading-start : (file : List ℕ) → Reading file 0 0
+-- what holds of what is read so far: its records lie within the file, and the stop is that of the rest
+pub record Reading (file : List ℕ) (s : Policy) : Type 0 where
+  pub few : s .labels ≤ 64
+  pub fewPairs : s .pairs ≤ 512
+  pub within : placeOf (s .labels) (s .pairs) ≤ length file
+  pub rest : stopOf file ≡ scanFrom (577 - (s .labels + s .pairs)) file s
+
+pub reading-start : (file : List ℕ) → Reading file (soFar 0 0 (replicate 64 0) (replicate 512 noPair))
 reading-start file = record { few = omega arith; fewPairs = omega arith; within = omega arith; rest = refl }
 
-module _ (file : List ℕ) (labels pairs : ℕ) (r : Reading file labels pairs) where
-  more : 577 - (labels + pairs) ≡ suc (577 - (labels + pairs + 1))
+module _ (file : List ℕ) (s : Policy) (r : Reading file s) where
+  more : 577 - (s .labels + s .pairs) ≡ suc (577 - (s .labels + s .pairs + 1))
   more = let a = r .few in let b = r .fewPairs in omega arith
 
-  pub reading-label : (count : ℕ) → kindAt file labels pairs ≡ Label count → Reading file (labels + 1) pairs
+  -- a label or a pair that is read has a place in its table
+  pub label-place : (count : ℕ) → policyKind file (s .labels) (s .pairs) ≡ Label count → s .labels < 64
+  label-place count e = label-iff file (s .labels) (s .pairs) count .0 e .1 .label .fits
+
+  pub pair-place : (pair : Pair) → policyKind file (s .labels) (s .pairs) ≡ Over pair → s .pairs < 512
+  pair-place pair e = over-iff file (s .labels) (s .pairs) pair .0 e .1 .over .fits
+
+  pub reading-label : (count : ℕ) → policyKind file (s .labels) (s .pairs) ≡ Label count → Reading file (withLabel s count)
   reading-label count e =
-      let f = label-iff file labels pairs count .0 e .1 .label in
-      let left : 577 - (labels + pairs + 1) ≡ 577 - (labels + 1 + pairs) = omega arith in
+      let f = label-iff file (s .labels) (s .pairs) count .0 e .1 .label in
+      let left : 577 - (s .labels + s .pairs + 1) ≡ 577 - (s .labels + 1 + s .pairs) = omega arith in
       record {
         few = omega (arith, f .fits);
         fewPairs = r .fewPairs;
         within = omega (arith, f .record-at .whole);
-        rest = r .rest ∙ rw (more, scan-label (577 - (labels + pairs + 1)) file labels pairs count e, left);
+        rest = r .rest ∙ rw (more, scan-label (577 - (s .labels + s .pairs + 1)) file s count e, left);
       }
 
-  pub reading-over : (pair : Pair) → kindAt file labels pairs ≡ Over pair → Reading file labels (pairs + 1)
+  pub reading-over : (pair : Pair) → policyKind file (s .labels) (s .pairs) ≡ Over pair → Reading file (withPair s pair)
   reading-over pair e =
-      let f = over-iff file labels pairs pair .0 e .1 .over in
-      let left : 577 - (labels + pairs + 1) ≡ 577 - (labels + (pairs + 1)) = omega arith in
+      let f = over-iff file (s .labels) (s .pairs) pair .0 e .1 .over in
+      let left : 577 - (s .labels + s .pairs + 1) ≡ 577 - (s .labels + (s .pairs + 1)) = omega arith in
       record {
         few = r .few;
         fewPairs = omega (arith, f .fits);
         within = omega (arith, f .record-at .whole);
-        rest = r .rest ∙ rw (more, scan-over (577 - (labels + pairs + 1)) file labels pairs pair e, left);
+        rest = r .rest ∙ rw (more, scan-over (577 - (s .labels + s .pairs + 1)) file s pair e, left);
       }
 
-  pub reading-end : kindAt file labels pairs ≡ End → stopOf file ≡ stopAt 0 labels pairs
-  reading-end e = r .rest ∙ rw (more, scan-end (577 - (labels + pairs + 1)) file labels pairs e)
+  reading-end : policyKind file (s .labels) (s .pairs) ≡ End → stopOf file ≡ s
+  reading-end e = r .rest ∙ rw (more, scan-end (577 - (s .labels + s .pairs + 1)) file s e)
 
-  pub reading-refused : (number : ℕ) → kindAt file labels pairs ≡ Refused number → stopOf file ≡ stopAt number labels pairs
-  reading-refused number e = r .rest ∙ rw (more, scan-refused (577 - (labels + pairs + 1)) file labels pairs number e)
+  reading-refused : (number : ℕ) → policyKind file (s .labels) (s .pairs) ≡ Refused number → stopOf file ≡ refusedThere s number
+  reading-refused number e = r .rest ∙ rw (more, scan-refused (577 - (s .labels + s .pairs + 1)) file s number e)
 
-  -- the records read so far fall short of 577
-  pub reading-less : labels + pairs < 577
-  reading-less = let a = r .few in let b = r .fewPairs in omega arith
+-- the end and a refusal are the kinds 2 and 3, behind a label and a pair
+later-kind : (tag : ℕ) → OneOf (2 ∷ 3 ∷ []) tag → 2 ≤ tag
+later-kind tag (inl e) = omega (arith, e)
+later-kind tag (inr e) = omega (arith, e)
 
--- the answer for the empty file, and for one that is refused at a record
-module _ (file : List ℕ) where
-  pub no-bytes : length file ≡ 0 → scanned file ≡ refused 1
-  unfolding scanned
-  no-bytes e = rw (eq-eqb (length file) 0 e)
+-- a record that is neither a label nor a pair stops: at the end with 0, else with the number of the refusal
+module _ (file : List ℕ) (labels pairs : ℕ) (counts : List ℕ) (over : List Pair) (r : Reading file (soFar labels pairs counts over)) where
+  pub reading-stopped : (kind : Kind) → OneOf (2 ∷ 3 ∷ []) (tagOf the-type kind) → policyKind file labels pairs ≡ kind
+      → stopOf file ≡ refusedThere (soFar labels pairs counts over) (kindNumber kind)
+  reading-stopped (Label count) h e = absurd (omega (arith, later-kind 0 h))
+  reading-stopped (Over pair) h e = absurd (omega (arith, later-kind 1 h))
+  reading-stopped End h e = reading-end file (soFar labels pairs counts over) r e
+  reading-stopped (Refused number) h e = reading-refused file (soFar labels pairs counts over) r number e
 
-  pub some-bytes : (length file ≡ 0 → ⊥) → (s : Stop) → s ≡ stopOf file → scanned file ≡ onStop file s
-  unfolding scanned
-  some-bytes d s e = rw (ne-eqb (length file) 0 d, e)
+-- the answer for the empty file
+pub no-bytes : (file : List ℕ) → length file ≡ 0 → policyOf file ≡ refusedPolicy 1
+unfolding policyOf
+no-bytes file e = rw (eq-eqb (length file) 0 e)
+
+-- the answer for any other, from where its reading stops: at a refused record, or at the end, where a label is not placed or all are
+module _ (file : List ℕ) (some : length file ≡ 0 → ⊥) (s : Policy) (stop : s ≡ stopOf file) where
+  answer : policyOf file ≡ onStop s
+  unfolding policyOf
+  answer = rw (ne-eqb (length file) 0 some, stop)
+
+  pub refused-answer : (s .refusal ≡ 0 → ⊥) → policyOf file ≡ refusedPolicy (s .refusal)
+  refused-answer d = answer ∙ rw (ne-eqb (s .refusal) 0 d)
+
+  module _ (ended : s .refusal ≡ 0) where
+    end-answer : policyOf file ≡ atEnd s
+    end-answer = answer ∙ rw (eq-eqb (s .refusal) 0 ended)
+
+    pub unplaced-answer : allPlaced (s .labels) (s .pairs) (s .over) ≡ false → policyOf file ≡ refusedPolicy 10
+    unfolding atEnd
+    unplaced-answer e = end-answer ∙ rw e
+
+    pub accepted-answer : allPlaced (s .labels) (s .pairs) (s .over) ≡ true → policyOf file ≡ s
+    unfolding atEnd
+    accepted-answer e = end-answer ∙ rw e

@@ -1,17 +1,17 @@
--- What `plan_text` answers and leaves, from what stands in the buffer of its own.
-use Prim.Native.Nat.{ℕ, _≤_}
+-- What `plan_text` answers and leaves in the lent buffer.
+use Prim.Native.Nat.{ℕ, _<_}
 use mathlib.Core.List.{List}
 use mathlib.Core.Path.{_≡_}
-use native.Mathlib.Omega.{arith}
 use lib.ListN.{length}
-use Rattle.buffers.proofs.Handed.{room-handed, handed-within}
+use Rattle.buffers.proofs.Unless.{answer-refused, answer-handed}
+use Rattle.buffers.specs.Handed.{refusedWritten, handed, handedInto}
 use Rattle.buffers.specs.Put.{Put}
 use Rattle.buffers.specs.declared.Written.{Written}
-use Rattle.planner.specs.Planned.{planOf}
-use Rattle.planner.specs.declared.Plan.{Plan}
-use Rattle.text.specs.Answer.{writtenOf, bufferAfter}
+use Rattle.plan_answers.specs.Planned.{planOf}
+use Rattle.plan_answers.specs.declared.Plan.{Plan}
+use Rattle.text.specs.Answer.{textWritten, textAfter}
 use Rattle.text.specs.Listing.{listing, planText}
-use Rattle.text.proofs.Plans.{text-suffices}
+use Rattle.text.proofs.Plans.{plan-number}
 
 -- the text stands at the front of the buffer
 module _ (file : List ℕ) {d e : List ℕ} {plan : Plan} {r : ℕ} (same : plan ≡ planOf file) (put : Put d e 0 (listing file plan) r) where
@@ -19,13 +19,13 @@ module _ (file : List ℕ) {d e : List ℕ} {plan : Plan} {r : ℕ} (same : plan
   unfolding planText
   text-put = rw same at put
 
--- the length that is answered lies within the buffer
-pub written-within : (file out : List ℕ) (w : Written) (after : List ℕ)
-    → w ≡ writtenOf file (length out) → after ≡ bufferAfter file out → w .length ≤ length after
-unfolding writtenOf bufferAfter
-written-within file out w after e f = handed-within (planText file) out w after e f
+-- from the refusal of the plan: the answer with it, and without one what was handed out
+module _ (file out : List ℕ) {plan : Plan} (same : plan ≡ planOf file) {w : Written} where
+  pub text-refused : 0 < plan .refusal → w ≡ refusedWritten (plan .refusal) → (w ≡ textWritten file (length out)) × (out ≡ textAfter file out)
+  unfolding textWritten textAfter
+  text-refused = answer-refused (plan-number file same) (planText file) out
 
--- a buffer of 4,096 bytes, or of 3,281, has room for every text
-pub room-suffices : (file : List ℕ) (room : ℕ) → 3281 ≤ room → writtenOf file room ≡ record { refusal = 0; length = length (planText file) }
-unfolding writtenOf
-room-suffices file room h = room-handed (planText file) room (omega (arith, text-suffices file))
+  pub text-handed : plan .refusal ≡ 0 → {after : List ℕ} → w ≡ handed (planText file) (length out) → after ≡ handedInto (planText file) out
+      → (w ≡ textWritten file (length out)) × (after ≡ textAfter file out)
+  unfolding textWritten textAfter
+  text-handed = answer-handed (plan-number file same) (planText file) out

@@ -1,16 +1,19 @@
 -- 01, "The plan program and its text": the listing of policy E, and the line of a refused policy.
 use Prim.Native.Nat.{ℕ}
 use mathlib.Core.List.{List, [], _∷_}
-use mathlib.Core.Path.{_≡_, refl}
+use mathlib.Core.Path.{_≡_, refl, sym, _∙_}
 use Rattle.format.specs.Names.{unpadded}
 use Rattle.lists.specs.Tables.{concatBelow}
-use Rattle.planner.proofs.WorkedExamples.{plan-E}
-use Rattle.policy.proofs.Examples.{E}
-use Rattle.policy.specs.File.{nameOf, countOf}
-use Rattle.policy.specs.Whole.{scanned}
-use Rattle.planner.specs.Planned.{planned, planOf}
-use Rattle.text.specs.Decimal.{digitsBefore, decimal}
-use Rattle.text.specs.Listing.{parentName, names, numbers, line, worded, lastLine, refusedLine, listing, planText}
+use Rattle.plan_answers.proofs.WorkedExamples.{plan-E}
+use Rattle.policy_file.proofs.Examples.{E}
+use Rattle.policy_file.specs.File.{nameOf, countOf}
+use Rattle.policy_file.specs.Whole.{policyOf}
+use Rattle.text.proofs.Plans.{plan-number}
+use Rattle.text.proofs.Printed.{printed-accepted}
+use Rattle.decimals.specs.Decimal.{digitsBefore, decimal}
+use Rattle.decimals.specs.Worded.{worded, refusedText}
+use Rattle.text.specs.Listing.{parentName, names, numbers, line, lastLine, listing, planText}
+use Rattle.text.specs.Printed.{printedUnless, printed}
 
 -- SUITE - 2 1 2
 -- CURVES SUITE 3 2 3
@@ -29,7 +32,11 @@ pub text-E : planText E ≡ listingE
 unfolding planText listing concatBelow line lastLine names numbers worded parentName unpadded nameOf countOf decimal digitsBefore
 text-E = rw plan-E
 
+pub printed-E : printed E ≡ listingE
+unfolding printed
+printed-E = printed-accepted (planText E) (sym (plan-number E (sym plan-E))) ∙ text-E
+
 -- REFUSED 1
-pub text-empty : planText [] ≡ 82 ∷ 69 ∷ 70 ∷ 85 ∷ 83 ∷ 69 ∷ 68 ∷ 32 ∷ 49 ∷ 10 ∷ []
-unfolding planText listing refusedLine worded decimal digitsBefore planned planOf scanned
-text-empty = refl
+pub printed-empty : printed [] ≡ 82 ∷ 69 ∷ 70 ∷ 85 ∷ 83 ∷ 69 ∷ 68 ∷ 32 ∷ 49 ∷ 10 ∷ []
+unfolding printed printedUnless refusedText worded decimal digitsBefore policyOf
+printed-empty = refl

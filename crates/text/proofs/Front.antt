@@ -5,10 +5,10 @@ use mathlib.Core.Path.{_≡_, ap, _∙_}
 use native.Mathlib.Omega.{arith}
 use lib.ListN.{getD, take}
 use Rattle.lists.proofs.Concat.{concat-same}
-use Rattle.policy.proofs.Front.{Agree, front-agrees}
-use Rattle.planner.proofs.Front.{agree-plan}
-use Rattle.planner.specs.Planned.{planOf}
-use Rattle.planner.specs.declared.Plan.{Plan}
+use Rattle.policy_file.proofs.Front.{Agree, front-agrees}
+use Rattle.plan_answers.proofs.Front.{agree-plan}
+use Rattle.plan_answers.specs.Planned.{planOf}
+use Rattle.plan_answers.specs.declared.Plan.{Plan}
 use Rattle.text.specs.Listing.{parentName, names, line, listing, planText}
 use Rattle.text.specs.Printable.{Printable}
 use Rattle.text.proofs.Plans.{plan-printable}

@@ -1,19 +1,16 @@
 -- The parts of a listing, and their lengths.
 use Prim.Native.Nat.{ℕ, suc, _+_}
 use mathlib.Core.List.{List, _++_}
-use mathlib.Core.Path.{_≡_}
+use mathlib.Core.Path.{_≡_, refl}
 use native.Mathlib.Omega.{arith}
 use borrow.Author.Tests.{eq-eqb, ne-eqb}
 use lib.ListN.{length, getD, length-append}
 use Rattle.format.specs.Names.{unpadded}
-use Rattle.policy.specs.File.{nameOf, countOf}
-use Rattle.planner.specs.declared.Plan.{Plan}
-use Rattle.text.specs.Decimal.{decimal}
-use Rattle.text.specs.Listing.{newline, dash, parentName, names, numbers, line, lines, worded, totalWord, refusedWord, lastLine, refusedLine, listing}
-
-pub worded-length : (word : List ℕ) (x : ℕ) → length (worded word x) ≡ length word + suc (length (decimal x)) + 1
-unfolding worded
-worded-length word x = simp length-append (omega arith)
+use Rattle.policy_file.specs.File.{nameOf, countOf}
+use Rattle.plan_answers.specs.declared.Plan.{Plan}
+use Rattle.decimals.specs.Decimal.{decimal}
+use Rattle.decimals.specs.Worded.{newline, worded}
+use Rattle.text.specs.Listing.{dash, parentName, names, numbers, line, lines, totalWord, lastLine, listing}
 
 pub numbers-length : (weight size count : ℕ) → length (numbers weight size count)
     ≡ suc (length (decimal weight)) + suc (length (decimal size)) + suc (length (decimal count))
@@ -43,12 +40,11 @@ module _ (file : List ℕ) (plan : Plan) (m : ℕ) where
         ≡ length (names file plan m) + length (numbers (getD (plan .weights) m 0) (getD (plan .sizes) m 0) count) + 1
     line-length = rw line-parts (simp length-append)
 
+-- the whole text: its lines, and the last
 module _ (file : List ℕ) (plan : Plan) where
-  -- the text of a refused policy and of an accepted one
-  pub listing-refused : (plan .refusal ≡ 0 → ⊥) → listing file plan ≡ worded refusedWord (plan .refusal)
-  unfolding listing refusedLine
-  listing-refused ne = rw (ne-eqb (plan .refusal) 0 ne)
-
-  pub listing-accepted : plan .refusal ≡ 0 → listing file plan ≡ lines file plan (plan .labels) ++ worded totalWord (plan .total)
+  pub listing-parts : listing file plan ≡ lines file plan (plan .labels) ++ worded totalWord (plan .total)
   unfolding listing lastLine
-  listing-accepted e = rw (eq-eqb (plan .refusal) 0 e)
+  listing-parts = refl
+
+  pub listing-length : length (listing file plan) ≡ length (lines file plan (plan .labels)) + length (worded totalWord (plan .total))
+  listing-length = rw listing-parts (length-append (lines file plan (plan .labels)) (worded totalWord (plan .total)))

@@ -1,34 +1,40 @@
 -- The plan of every policy file can be printed, and 4,096 bytes always have room for its text.
 use Prim.Native.Nat.{ℕ, _+_, _*_, _≤_}
 use mathlib.Core.Bool.{Bool, true, false, cond}
-use mathlib.Core.List.{List, _++_}
-use mathlib.Core.Path.{refl}
+use mathlib.Core.List.{List}
+use mathlib.Core.Path.{_≡_, refl, ap}
 use native.Mathlib.Omega.{arith}
 use lib.Dec.{eqb}
-use lib.ListN.{length, getD, drop, length-append, length-take}
+use lib.ListN.{length, getD, drop, length-take}
 use Rattle.format.proofs.Padding.{unpadded-short}
 use Rattle.format.specs.Names.{unpadded}
 use Rattle.lists.proofs.Concat.{concat-short}
 use Rattle.lists.proofs.Tables.{getD-filled}
-use Rattle.policy.proofs.Verdict.{bounds}
-use Rattle.policy.specs.File.{nameOf, countOf}
-use Rattle.policy.specs.Whole.{labelsOf}
+use Rattle.policy_file.proofs.Verdict.{bounds}
+use Rattle.policy_file.specs.File.{nameOf, countOf}
+use Rattle.policy_file.specs.Whole.{policyRefusal, labelCount}
 use Rattle.trees.specs.Weights.{plan as tree}
 use Rattle.weights.proofs.Reading.{plan-early}
-use Rattle.planner.specs.Planned.{testOf, planned, planOf}
-use Rattle.planner.specs.declared.Plan.{Plan}
-use Rattle.text.specs.Listing.{dash, parentName, line, lines, totalWord, refusedWord, lastLine, refusedLine, listing, planText}
+use Rattle.plan_answers.specs.Planned.{atOrBelow, planned, planOf}
+use Rattle.plan_answers.specs.declared.Plan.{Plan}
+use Rattle.text.specs.Listing.{dash, parentName, line, totalWord, listing, planText}
 use Rattle.text.specs.Printable.{Printable}
-use Rattle.text.proofs.Digits.{decimal-short}
-use Rattle.text.proofs.Parts.{worded-length, names-length, numbers-length, line-length}
+use Rattle.decimals.proofs.Digits.{decimal-short}
+use Rattle.decimals.proofs.Worded.{worded-length}
+use Rattle.text.proofs.Parts.{names-length, numbers-length, line-length, listing-length}
 
 pub plan-printable : (file : List ℕ) → Printable file (planOf file)
 unfolding planOf planned
 plan-printable file = record {
   few = bounds file .0;
   within = omega (arith, bounds file);
-  parents = λ m h. omega (arith, getD-filled (tree (labelsOf file) (countOf file) (testOf file)) 64 0 (labelsOf file) m 0 h, plan-early (labelsOf file) (countOf file) (testOf file) m);
+  parents = λ m h. omega (arith, getD-filled (tree (labelCount file) (countOf file) (atOrBelow file)) 64 0 (labelCount file) m 0 h, plan-early (labelCount file) (countOf file) (atOrBelow file) m);
 }
+
+-- its refusal is the policy's
+pub plan-number : (file : List ℕ) {plan : Plan} → plan ≡ planOf file → plan .refusal ≡ policyRefusal file
+unfolding planOf planned
+plan-number file same = ap (λ (p : Plan). p .refusal) same
 
 -- a name has at most 8 bytes
 pub name-short : (file : List ℕ) (m : ℕ) → length (unpadded (nameOf file m)) ≤ 8
@@ -63,19 +69,14 @@ module _ (file : List ℕ) (plan : Plan) where
       )
 
   listing-short : plan .labels ≤ 64 → length (listing file plan) ≤ 3281
-  unfolding listing lastLine refusedLine
-  listing-short few = go (eqb (plan .refusal) 0)
-    where
-      go : (t : Bool) → length (cond t (lines file plan (plan .labels) ++ lastLine plan) (refusedLine plan)) ≤ 3281
-      go true =
-          omega (
-            arith,
-            length-append (lines file plan (plan .labels)) (lastLine plan),
-            concat-short (line file plan) 51 line-short (plan .labels),
-            worded-length totalWord (plan .total),
-            decimal-short (plan .total),
-          )
-      go false = omega (arith, worded-length refusedWord (plan .refusal), decimal-short (plan .refusal))
+  listing-short few =
+      omega (
+        arith,
+        listing-length file plan,
+        concat-short (line file plan) 51 line-short (plan .labels),
+        worded-length totalWord (plan .total),
+        decimal-short (plan .total),
+      )
 
 -- 64 lines of 51 bytes and a last line of 17: a buffer of 4,096 bytes has room for every text
 pub text-suffices : (file : List ℕ) → length (planText file) ≤ 3281

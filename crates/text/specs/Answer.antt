@@ -1,13 +1,14 @@
 -- What `plan_text` answers and leaves in the lent buffer.
 use Prim.Native.Nat.{ℕ}
 use mathlib.Core.List.{List}
-use Rattle.buffers.specs.Handed.{handed, handedInto}
+use Rattle.buffers.specs.Handed.{writtenUnless, bufferUnless}
 use Rattle.buffers.specs.declared.Written.{Written}
+use Rattle.policy_file.specs.Whole.{policyRefusal}
 use Rattle.text.specs.Listing.{planText}
 
--- the text of a policy file is handed out
-unfoldable pub writtenOf : List ℕ → (room : ℕ) → Written
-writtenOf file room = handed (planText file) room
+-- the text is handed out unless the policy is refused: "A refusal of the policy comes before any other"
+unfoldable pub textWritten : List ℕ → (room : ℕ) → Written
+textWritten file room = writtenUnless (policyRefusal file) (planText file) room
 
-unfoldable pub bufferAfter : List ℕ → List ℕ → List ℕ
-bufferAfter file out = handedInto (planText file) out
+unfoldable pub textAfter : List ℕ → List ℕ → List ℕ
+textAfter file out = bufferUnless (policyRefusal file) (planText file) out

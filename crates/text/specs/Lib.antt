@@ -1,4 +1,4 @@
-pub mod Decimal
 pub mod Listing
+pub mod Printed
 pub mod Printable
 pub mod Answer

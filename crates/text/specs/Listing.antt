@@ -6,17 +6,12 @@ use lib.Dec.{eqb}
 use lib.ListN.{getD}
 use Rattle.format.specs.Names.{unpadded}
 use Rattle.lists.specs.Tables.{concatBelow}
-use Rattle.policy.specs.File.{nameOf, countOf}
+use Rattle.policy_file.specs.File.{nameOf, countOf}
 use Rattle.trees.specs.Trees.{top}
-use Rattle.planner.specs.Planned.{planOf}
-use Rattle.planner.specs.declared.Plan.{Plan}
-use Rattle.text.specs.Decimal.{decimal}
-
-abbrev pub space : List ℕ
-space = 32 ∷ []
-
-abbrev pub newline : List ℕ
-newline = 10 ∷ []
+use Rattle.plan_answers.specs.Planned.{planOf}
+use Rattle.plan_answers.specs.declared.Plan.{Plan}
+use Rattle.decimals.specs.Decimal.{decimal}
+use Rattle.decimals.specs.Worded.{space, newline, worded}
 
 -- `-`
 abbrev pub dash : List ℕ
@@ -25,10 +20,6 @@ dash = 45 ∷ []
 -- `TOTAL`
 abbrev pub totalWord : List ℕ
 totalWord = 84 ∷ 79 ∷ 84 ∷ 65 ∷ 76 ∷ []
-
--- `REFUSED`
-abbrev pub refusedWord : List ℕ
-refusedWord = 82 ∷ 69 ∷ 70 ∷ 85 ∷ 83 ∷ 69 ∷ 68 ∷ []
 
 -- "parent's name (`-` for the top)"
 unfoldable pub parentName : List ℕ → Plan → ℕ → List ℕ
@@ -50,22 +41,14 @@ line file plan m = names file plan m ++ numbers (getD (plan .weights) m 0) (getD
 abbrev pub lines : List ℕ → Plan → ℕ → List ℕ
 lines file plan n = concatBelow (line file plan) n
 
--- a line of a word and a number
-unfoldable pub worded : List ℕ → ℕ → List ℕ
-worded word x = word ++ (space ++ decimal x) ++ newline
-
 -- "Last stands `TOTAL` and the total."
 unfoldable pub lastLine : Plan → List ℕ
 lastLine plan = worded totalWord (plan .total)
 
--- "A refused policy prints `REFUSED`, a space and the number."
-unfoldable pub refusedLine : Plan → List ℕ
-refusedLine plan = worded refusedWord (plan .refusal)
-
 -- the text of a file and its plan
 unfoldable pub listing : List ℕ → Plan → List ℕ
-listing file plan = cond (eqb (plan .refusal) 0) (lines file plan (plan .labels) ++ lastLine plan) (refusedLine plan)
+listing file plan = lines file plan (plan .labels) ++ lastLine plan
 
--- the text of a policy file
+-- the text of an accepted policy file
 unfoldable pub planText : List ℕ → List ℕ
 planText file = listing file (planOf file)

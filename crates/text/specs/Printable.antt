@@ -2,7 +2,7 @@
 use Prim.Native.Nat.{ℕ, _*_, _≤_, _<_}
 use mathlib.Core.List.{List}
 use lib.ListN.{length, getD}
-use Rattle.planner.specs.declared.Plan.{Plan}
+use Rattle.plan_answers.specs.declared.Plan.{Plan}
 
 -- the plan's labels lie within the file, and each of their parents is one of them
 pub record Printable (file : List ℕ) (plan : Plan) : Type 0 where

@@ -1,16 +1,14 @@
 // The plan as text.
 use buffers::Written;
-use planner::Plan;
+use plan_answers::Plan;
 ghost use mathlib.Core.Path.{_≡_};
 ghost use Prim.Native.Nat.{_+_, _*_, _≤_, _<_};
-ghost use mathlib.Core.List.{_++_};
 ghost use lib.ListN.{length};
 ghost use Rattle.buffers.specs.Put.{Put};
 ghost use Rattle.format.specs.Names.{unpadded};
-ghost use Rattle.policy.specs.File.{nameOf};
-ghost use Rattle.text.specs.Decimal.{decimal};
-ghost use Rattle.text.specs.Listing.{space, parentName, names, numbers, line, lines, worded, listing};
-ghost use Rattle.text.specs.Answer.{writtenOf, bufferAfter};
+ghost use Rattle.policy_file.specs.File.{nameOf};
+ghost use Rattle.text.specs.Listing.{parentName, names, numbers, line, lines, listing};
+ghost use Rattle.text.specs.Answer.{textWritten, textAfter};
 ghost use Rattle.text.specs.Printable.{Printable};
 
 // Writes the name of label `m` without its padding.
@@ -21,42 +19,6 @@ pub fn put_name(policy: &[u8], m: usize, out: &mut [u8], at: usize) -> usize
     let name = format::read_name(policy, 12 * m + 2);
     let end = format::unpadded_length(&name);
     buffers::put_bytes(out, at, &name[..end])
-}
-
-// Writes a number in decimal.
-fn put_decimal(out: &mut [u8], at: usize, x: u32) -> usize
-    requires { ⌜ at + length (decimal x) ≤ length (now out) ⌝ }
-    ensures { λ r. ⌜ Put (now (out .entry)) (now (out .exit)) at (decimal x) r ⌝ }
-{
-    let mut digits = [0u8; 10];
-    let mut i = 9;
-    let mut rest = x;
-    while 10 <= rest {
-        digits[i] = 48 + (rest % 10) as u8;
-        rest /= 10;
-        i -= 1;
-    }
-    digits[i] = 48 + rest as u8;
-    buffers::put_bytes(out, at, &digits[i..])
-}
-
-// Writes a space and a number.
-pub fn put_number(out: &mut [u8], at: usize, x: u32) -> usize
-    requires { ⌜ at + length (space ++ decimal x) ≤ length (now out) ⌝ }
-    ensures { λ r. ⌜ Put (now (out .entry)) (now (out .exit)) at (space ++ decimal x) r ⌝ }
-{
-    let behind = buffers::put_bytes(out, at, b" ");
-    put_decimal(out, behind, x)
-}
-
-// Writes a line of a word and a number.
-pub fn put_worded(out: &mut [u8], at: usize, word: &[u8], x: u32) -> usize
-    requires { ⌜ at + length (worded (now word) x) ≤ length (now out) ⌝ }
-    ensures { λ r. ⌜ Put (now (out .entry)) (now (out .exit)) at (worded (now (word .entry)) x) r ⌝ }
-{
-    let behind = buffers::put_bytes(out, at, word);
-    let end = put_number(out, behind, x);
-    buffers::put_bytes(out, end, b"\n")
 }
 
 // Writes the name of label `m`'s parent, `-` for the top.
@@ -86,9 +48,9 @@ fn put_numbers(out: &mut [u8], at: usize, weight: u32, size: u32, count: u32) ->
     requires { ⌜ at + length (numbers weight size count) ≤ length (now out) ⌝ }
     ensures { λ r. ⌜ Put (now (out .entry)) (now (out .exit)) at (numbers weight size count) r ⌝ }
 {
-    let behind = put_number(out, at, weight);
-    let accounts = put_number(out, behind, size);
-    put_number(out, accounts, count)
+    let behind = decimals::put_number(out, at, weight);
+    let accounts = decimals::put_number(out, behind, size);
+    decimals::put_number(out, accounts, count)
 }
 
 // Writes the line of label `m`.
@@ -124,19 +86,19 @@ fn write_text(policy: &[u8], plan: Plan, out: &mut [u8]) -> usize
     requires { ⌜ Printable (now policy) plan × (length (listing (now policy) plan) ≤ length (now out)) ⌝ }
     ensures { λ r. ⌜ Put (now (out .entry)) (now (out .exit)) 0 (listing (now (policy .entry)) plan) r ⌝ }
 {
-    if plan.refusal != 0 {
-        return put_worded(out, 0, b"REFUSED", plan.refusal as u32);
-    }
     let behind = put_lines(policy, plan, out);
-    put_worded(out, behind, b"TOTAL", plan.total)
+    decimals::put_worded(out, behind, b"TOTAL", plan.total)
 }
 
-// Writes the text of a policy file from the buffer's start on, or nothing if it has no room for it.
+// Writes the text of an accepted policy file from the buffer's start on, or nothing if it has no room for it.
 // No text has more than 3,281 bytes.
 pub fn plan_text(policy: &[u8], out: &mut [u8]) -> Written
-    ensures { λ r. ⌜ (r ≡ writtenOf (now (policy .entry)) (length (now (out .entry)))) × (now (out .exit) ≡ bufferAfter (now (policy .entry)) (now (out .entry))) ⌝ }
+    ensures { λ r. ⌜ (r ≡ textWritten (now (policy .entry)) (length (now (out .entry)))) × (now (out .exit) ≡ textAfter (now (policy .entry)) (now (out .entry))) ⌝ }
 {
     let plan = planner::plan_policy(policy);
+    if plan.refusal != 0 {
+        return buffers::refuse(plan.refusal);
+    }
     let mut text = [0u8; 4096];
     let length = write_text(policy, plan, &mut text);
     buffers::hand_out(&text[..length], out)

@@ -12,7 +12,7 @@ use borrow.Author.Tests.{leb-true}
 use Rattle.trees.specs.Sums.{sum, sumWhere, select}
 use Rattle.trees.specs.Trees.{top, Fewest}
 use Rattle.trees.specs.Order.{Order}
-use Rattle.trees.specs.Weights.{weighed, weight, inSmallest, smallest, labelKeys, total, takes, best, leastParent, plan, least}
+use Rattle.trees.specs.Weights.{weighed, weight, inSmallest, smallest, labelKeys, total, takes, best, plan, least}
 use Rattle.trees.proofs.Lists.{not-both, both-yes}
 use Rattle.trees.proofs.Fewest.{plan-fewest}
 
@@ -36,28 +36,28 @@ labels = 0 ∷ 1 ∷ 2 ∷ 3 ∷ []
 
 -- "TOTAL 17", and the listing's columns: parents, weights under the top, keys held by one account
 pub E-total : total 4 countE leE (plan 4 countE leE) ≡ 17
-unfolding countE leE total labelKeys plan leastParent best takes smallest inSmallest weight weighed sum sumWhere select
+unfolding countE leE total labelKeys plan best takes smallest inSmallest weight weighed sum sumWhere select
 E-total = refl
 
 pub E-parents : map (plan 4 countE leE) labels ≡ 0 ∷ 0 ∷ 0 ∷ 2 ∷ []
-unfolding countE leE labels plan leastParent best takes weight weighed sumWhere
+unfolding countE leE labels plan best takes weight weighed sumWhere
 E-parents = refl
 
 pub E-weights : map (λ m. weight 4 countE leE (plan 4 countE leE m) m) (1 ∷ 2 ∷ 3 ∷ []) ≡ 3 ∷ 5 ∷ 7 ∷ []
-unfolding countE leE plan leastParent best takes weight weighed sumWhere
+unfolding countE leE plan best takes weight weighed sumWhere
 E-weights = refl
 
 pub E-sizes : map (λ l. length (smallest 4 leE (plan 4 countE leE) l)) labels ≡ 1 ∷ 2 ∷ 1 ∷ 1 ∷ []
-unfolding countE leE labels plan leastParent best takes smallest inSmallest weight weighed sumWhere select
+unfolding countE leE labels plan best takes smallest inSmallest weight weighed sumWhere select
 E-sizes = refl
 
--- "E under `TR` 0,0,0,1: 19. Under 0,0,0,0: 22." Neither is least.
+-- "E under `TR` 0,0,0,1: 19. .. Under 0,0,0,0: 22." Neither is least.
 pub E-offered : map (total 4 countE leE) (at (0 ∷ 0 ∷ 0 ∷ 1 ∷ []) ∷ at (0 ∷ 0 ∷ 0 ∷ 0 ∷ []) ∷ at (0 ∷ 0 ∷ 0 ∷ 2 ∷ []) ∷ []) ≡ 19 ∷ 22 ∷ 17 ∷ []
 unfolding countE leE total labelKeys smallest inSmallest sum select
 E-offered = refl
 
 pub E-answers : map (least 4 countE leE) (at (0 ∷ 0 ∷ 0 ∷ 1 ∷ []) ∷ at (0 ∷ 0 ∷ 0 ∷ 0 ∷ []) ∷ at (0 ∷ 0 ∷ 0 ∷ 2 ∷ []) ∷ []) ≡ false ∷ false ∷ true ∷ []
-unfolding countE leE least total labelKeys plan leastParent best takes smallest inSmallest weight weighed sum sumWhere select
+unfolding countE leE least total labelKeys plan best takes smallest inSmallest weight weighed sum sumWhere select
 E-answers = refl
 
 -- ---- "Chain A 1, B 0, C 4: A and B both weigh 4 for C, and C hangs from A. Total 5."
@@ -73,11 +73,11 @@ unfolding countC leC weight weighed sumWhere
 chain-weights = refl
 
 pub chain-parent : plan 3 countC leC 2 ≡ 0
-unfolding countC leC plan leastParent best takes weight weighed sumWhere
+unfolding countC leC plan best takes weight weighed sumWhere
 chain-parent = refl
 
 pub chain-total : total 3 countC leC (plan 3 countC leC) ≡ 5
-unfolding countC leC total labelKeys plan leastParent best takes smallest inSmallest weight weighed sum sumWhere select
+unfolding countC leC total labelKeys plan best takes smallest inSmallest weight weighed sum sumWhere select
 chain-total = refl
 
 -- ---- the demand at E

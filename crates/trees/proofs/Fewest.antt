@@ -13,7 +13,7 @@ use Rattle.trees.specs.Order.{Order}
 use Rattle.trees.specs.Weights.{weight, total, weights, LeastWeight, HangsLeast, plan, least}
 use Rattle.trees.proofs.Sums.{sumWhere-mono, sumWhere-tight}
 use Rattle.trees.proofs.Totals.{total-weights, total-enough, total-needed}
-use Rattle.trees.proofs.Ties.{leastParent-least, leastParent-lowest}
+use Rattle.trees.proofs.Ties.{plan-least, plan-takes-lowest}
 
 -- there is one fewest
 pub fewest-unique : {n : ℕ} {count : ℕ → ℕ} {R : ℕ → ℕ → Type 0} {j k : ℕ} → Fewest n count R j → Fewest n count R k → j ≡ k
@@ -28,14 +28,14 @@ module _ {n : ℕ} {R : ℕ → ℕ → Type 0} {le : ℕ → ℕ → Bool} (O :
 
   pub plan-hangs : HangsLeast n count R le (plan n count le)
   unfolding plan
-  plan-hangs = record { hangs = λ m hm ne. leastParent-least O count hm ne }
+  plan-hangs = record { hangs = λ m hm ne. plan-least O count hm ne }
 
   pub plan-tree : Tree n R (plan n count le)
   plan-tree = hangs-tree plan-hangs
 
   pub plan-lowest : (m : ℕ) → m < n → m ≢ top → (q : ℕ) → LeastWeight n count R le q m → plan n count le m ≤ q
   unfolding plan
-  plan-lowest m hm ne q L = leastParent-lowest O count hm ne q L
+  plan-lowest m hm ne q L = plan-takes-lowest O count hm ne q L
 
   -- ---- least weights and the least total
 
@@ -89,7 +89,7 @@ module _ {n : ℕ} {R : ℕ → ℕ → Type 0} {le : ℕ → ℕ → Bool} (O :
     pub fewest-hangs : Fewest n count R (total n count le parent) → HangsLeast n count R le parent
     fewest-hangs F = small-hangs (F .fewest (total n count le (plan n count le)) (total-enough O count plan-tree))
 
-    -- for the number k that is the fewest, "is the fewest" and "equals it" are the same
+    -- a total is the fewest exactly when it equals the number k that is
     same-fewest : (k : ℕ) → Fewest n count R k → Fewest n count R (total n count le parent) ↔ (total n count le parent ≡ k)
     same-fewest k F = (λ G. fewest-unique G F, λ e. subst (Fewest n count R) (sym e) F)
 

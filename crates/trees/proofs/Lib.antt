@@ -10,3 +10,4 @@ pub mod Published
 pub mod Examples
 pub mod Tables
 pub mod Widths
+pub mod Accounts

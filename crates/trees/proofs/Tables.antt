@@ -10,7 +10,7 @@ use lib.ListN.{length}
 use lib.Dec.{eqb}
 use borrow.Author.Tests.{eq-eqb, ne-eqb}
 use Rattle.trees.specs.Trees.{top}
-use Rattle.trees.specs.Weights.{weighed, weight, inSmallest, smallest, labelKeys, total, best, leastParent, plan, least}
+use Rattle.trees.specs.Weights.{weighed, weight, inSmallest, smallest, labelKeys, total, best, plan, least}
 use Rattle.trees.proofs.Sums.{sum-cong, sumWhere-cong}
 use Rattle.trees.proofs.Select.{select-cong}
 use Rattle.trees.proofs.Order.{is-top}
@@ -49,13 +49,13 @@ module _ {n : ℕ} {count count′ : ℕ → ℕ} {le le′ : ℕ → ℕ → Bo
       let hp : p < n = omega arith in
       rw (← same, ← (weight-agree p m hp hm), ← (weight-agree b m hb hm), ← (h m p hm hp)) refl
 
-  pub leastParent-agree : (m : ℕ) → m < n → leastParent n count le m ≡ leastParent n count′ le′ m
-  unfolding leastParent
-  leastParent-agree m hm = best-agree m hm m (omega arith)
+  pub plan-same : (m : ℕ) → m < n → plan n count le m ≡ plan n count′ le′ m
+  unfolding plan
+  plan-same m hm = best-agree m hm m (omega arith)
 
   pub plan-agree : SameParents n (plan n count le) (plan n count′ le′)
-  unfolding plan leastParent
-  plan-agree = record { labels = λ m hm ne. omega (arith, best-early n count le m m); agree = λ m hm ne. leastParent-agree m hm }
+  unfolding plan
+  plan-agree = record { labels = λ m hm ne. omega (arith, best-early n count le m m); agree = λ m hm ne. plan-same m hm }
 
   -- ---- smallest sets, totals and the answer
 

@@ -1,5 +1,5 @@
 -- The plan's rule: a strictly higher label of least weight and, of several, the one with the lowest number. Theorems use these two laws,
--- `leastParent-least` and `leastParent-lowest`; code that chooses uses the laws of one turn, `best-take`, `best-keep` and `best-pass`.
+-- `plan-least` and `plan-takes-lowest`; code that chooses uses the laws of one turn, `best-take`, `best-keep` and `best-pass`.
 use Prim.Native.Nat.{ℕ, zero, suc, _≤_, _<_}
 use mathlib.Core.Path.{_≡_}
 use mathlib.Core.Logic.{_⊎_, inl, inr, _≢_}
@@ -9,7 +9,7 @@ use native.Mathlib.Omega.{arith}
 use borrow.Author.Tests.{leb-true, leb-false}
 use Rattle.trees.specs.Trees.{top, Above}
 use Rattle.trees.specs.Order.{Order}
-use Rattle.trees.specs.Weights.{weight, LeastWeight, takes, best, leastParent}
+use Rattle.trees.specs.Weights.{weight, LeastWeight, takes, best, plan}
 use Rattle.trees.proofs.Lists.{answers, not-both}
 use Rattle.trees.proofs.Order.{test-yes, test-says, above-lower, top-above}
 
@@ -122,16 +122,16 @@ module _ {n : ℕ} {R : ℕ → ℕ → Type 0} {le : ℕ → ℕ → Bool} (O :
       go B (inr e) = rw (best-pass n count le m p e) (kept B (λ d. absurd (not-both d e)))
 
   -- the first law: a strictly higher label, and none such weighs less
-  pub leastParent-least : LeastWeight n count R le (leastParent n count le m) m
-  unfolding leastParent
-  leastParent-least =
+  pub plan-least : LeastWeight n count R le (plan n count le m) m
+  unfolding plan
+  plan-least =
       let B = best-best m (omega arith) in
       record { above = B .above; least = λ q a. B .least q (above-lower O hm a) (test-yes O hm (a .label) (a .over)) }
 
   -- the second law: the rule for ties
-  pub leastParent-lowest : (q : ℕ) → LeastWeight n count R le q m → leastParent n count le m ≤ q
-  unfolding leastParent
-  leastParent-lowest q L =
+  pub plan-takes-lowest : (q : ℕ) → LeastWeight n count R le q m → plan n count le m ≤ q
+  unfolding plan
+  plan-takes-lowest q L =
       let B = best-best m (omega arith) in
       let a = L .above in
       B .lowest q (above-lower O hm a) (test-yes O hm (a .label) (a .over)) (L .least (best n count le m m) (B .above))

@@ -3,3 +3,4 @@ pub mod Trees
 pub mod Order
 pub mod Weights
 pub mod Published
+pub mod Accounts

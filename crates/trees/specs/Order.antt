@@ -1,4 +1,4 @@
--- The order of the labels: what is meant, R m l, and what is tested, le m l, both "label m is at or below label l".
+-- The order of the labels: what is meant, R m l, and what is tested, le m l: both say that label m is at or below label l.
 use Prim.Native.Nat.{ℕ, _≤_, _<_}
 use mathlib.Core.Path.{_≡_}
 use mathlib.Core.Logic.{_↔_}

@@ -24,7 +24,7 @@ pub record Tree (n : ℕ) (R : ℕ → ℕ → Type 0) (parent : ℕ → ℕ) : 
   pub hangs : (m : ℕ) → m < n → m ≢ top → Above n R (parent m) m
 
 -- "A set holds labels, each once."
-abbrev pub Once : List ℕ → Type 0
+abbrev pub Once : {A : Type 0} → List A → Type 0
 Once [] = Unit {0}
 Once (x ∷ set) = (¬ List·Memᴰ x set) × Once set
 

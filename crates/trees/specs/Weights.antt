@@ -58,12 +58,9 @@ best n count le m (suc p) =
     cond (le m p && takes (weight n count le p m) (weight n count le b m)) p b
 
 -- "The plan takes for each label a parent of least weight; of several, the one with the lowest number." The labels above m have smaller numbers.
-unfoldable pub leastParent : (n : ℕ) (count : ℕ → ℕ) (le : ℕ → ℕ → Bool) (m : ℕ) → ℕ
-leastParent n count le m = best n count le m m
-
--- the plan's tree; the top's own entry is the top
+-- The plan's tree; the top's own entry is the top.
 unfoldable pub plan : (n : ℕ) (count : ℕ → ℕ) (le : ℕ → ℕ → Bool) → ℕ → ℕ
-plan n count le m = leastParent n count le m
+plan n count le m = best n count le m m
 
 -- "yes exactly when no derivation tree of the policy has a smaller total"
 unfoldable pub least : (n : ℕ) (count : ℕ → ℕ) (le : ℕ → ℕ → Bool) (parent : ℕ → ℕ) → Bool

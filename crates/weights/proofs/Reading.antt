@@ -8,7 +8,7 @@ use borrow.Author.Tests.{eq-eqb, ne-eqb}
 use Rattle.lists.specs.Tables.{filled}
 use Rattle.lists.proofs.Tables.{getD-filled, getD-past}
 use Rattle.trees.specs.Trees.{top}
-use Rattle.trees.specs.Weights.{weight, leastParent, plan}
+use Rattle.trees.specs.Weights.{weight, plan}
 use Rattle.trees.proofs.Tables.{SameParents}
 use Rattle.trees.proofs.Ties.{best-early}
 use Rattle.weights.specs.Tables.{entries, parentTable, heldWeight, weightTable, setSize, sizeTable}
@@ -23,7 +23,7 @@ module _ (f : ℕ → ℕ) (n m : ℕ) where
 
 -- no label's entry in the plan is past the label itself
 pub plan-early : (n : ℕ) (count : ℕ → ℕ) (le : ℕ → ℕ → Bool) (m : ℕ) → plan n count le m ≤ m
-unfolding plan leastParent
+unfolding plan
 plan-early n count le m = best-early n count le m m
 
 module _ (n : ℕ) (count : ℕ → ℕ) (le : ℕ → ℕ → Bool) where

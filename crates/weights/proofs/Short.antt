@@ -5,7 +5,7 @@ use mathlib.Core.Path.{_≡_, refl, sym, _∙_}
 use native.Mathlib.Decide.{decLe}
 use native.Mathlib.Omega.{arith}
 use Rattle.trees.specs.Sums.{sumWhere}
-use Rattle.trees.specs.Weights.{weighed, weight, best, leastParent}
+use Rattle.trees.specs.Weights.{weighed, weight, best, plan}
 use Rattle.trees.proofs.Sums.{sumWhere-no}
 use Rattle.weights.specs.Tables.{Falls}
 
@@ -41,6 +41,6 @@ module _ (count : ℕ → ℕ) (le : ℕ → ℕ → Bool) (falls : Falls le) (m
     best-short zero = refl
     best-short (suc p) = rw (best-short p, weight-short p, weight-short (best n count le m p)) refl
 
-    pub leastParent-short : leastParent k count le m ≡ leastParent n count le m
-    unfolding leastParent
-    leastParent-short = best-short m
+    pub plan-short : plan k count le m ≡ plan n count le m
+    unfolding plan
+    plan-short = best-short m

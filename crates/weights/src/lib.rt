@@ -2,7 +2,7 @@
 ghost use Prim.Native.Nat.{_+_, _≤_, _<_};
 ghost use mathlib.Core.Bool.{cond, not};
 ghost use mathlib.Core.Path.{_≡_};
-ghost use Rattle.order.specs.Table.{atOrBelow};
+ghost use Rattle.order.specs.Table.{entryAt};
 ghost use Rattle.trees.specs.Weights.{takes, inSmallest};
 ghost use Rattle.weights.specs.Tables.{entries, Rowed, Falls, Small, accountsAbove, aboveTable, weightFrom, sizesBelow, sizeTable, keyTotal};
 ghost use Rattle.weights.specs.Choices.{choiceOf, chosenOf};
@@ -36,7 +36,7 @@ fn accounts(x: u16) -> u32
 // The accounts of label `l` if label `m` is at or below it, else none.
 fn account_above(counts: &[u16; 64], rows: &[[bool; 64]; 64], m: usize, l: usize) -> u32
     requires { ⌜ (m < 64) × (l < 64) ⌝ }
-    ensures { λ r. ⌜ (r ≡ accountsAbove (entries (now (counts .entry))) (atOrBelow (now (rows .entry))) m l) × (r ≤ 65_535) ⌝ }
+    ensures { λ r. ⌜ (r ≡ accountsAbove (entries (now (counts .entry))) (entryAt (now (rows .entry))) m l) × (r ≤ 65_535) ⌝ }
 {
     let here = accounts(counts[l]);
     if rows[m][l] {
@@ -48,7 +48,7 @@ fn account_above(counts: &[u16; 64], rows: &[[bool; 64]; 64], m: usize, l: usize
 // The accounts of the labels at or above label `m`.
 fn accounts_above(labels: usize, counts: &[u16; 64], rows: &[[bool; 64]; 64], m: usize) -> [u32; 64]
     requires { ⌜ (labels ≤ 64) × (m < 64) ⌝ }
-    ensures { λ r. ⌜ (r ≡ aboveTable labels (entries (now (counts .entry))) (atOrBelow (now (rows .entry))) m) × Small r ⌝ }
+    ensures { λ r. ⌜ (r ≡ aboveTable labels (entries (now (counts .entry))) (entryAt (now (rows .entry))) m) × Small r ⌝ }
 {
     let mut above = [0u32; 64];
     let mut l = 0;
@@ -72,7 +72,7 @@ fn outside(more: u32, above: bool) -> u32
 // The weight of parent `p` for the label whose accounts above it are given: those at labels that are not above `p`.
 fn weight(labels: usize, above: &[u32; 64], rows: &[[bool; 64]; 64], p: usize) -> u32
     requires { ⌜ (labels ≤ 64) × (p < 64) × Small (now above) ⌝ }
-    ensures { λ r. ⌜ r ≡ weightFrom labels (entries (now (above .entry))) (atOrBelow (now (rows .entry))) p ⌝ }
+    ensures { λ r. ⌜ r ≡ weightFrom labels (entries (now (above .entry))) (entryAt (now (rows .entry))) p ⌝ }
 {
     let mut sum: u32 = 0;
     let mut l = 0;
@@ -94,7 +94,7 @@ fn takes(later: u32, sofar: u32) -> bool
 // The parent of least weight for label `m`, gone through upwards from the top.
 fn least_parent(labels: usize, counts: &[u16; 64], rows: &[[bool; 64]; 64], m: usize) -> Choice
     requires { ⌜ (labels ≤ 64) × (m < 64) ⌝ }
-    ensures { λ r. ⌜ (r ≡ choiceOf labels (entries (now (counts .entry))) (atOrBelow (now (rows .entry))) m) × (r .parent ≤ m) ⌝ }
+    ensures { λ r. ⌜ (r ≡ choiceOf labels (entries (now (counts .entry))) (entryAt (now (rows .entry))) m) × (r .parent ≤ m) ⌝ }
 {
     if m == 0 {
         return Choice {
@@ -133,8 +133,8 @@ fn past(m: usize) -> usize
 
 // For each label a parent of least weight, with that weight.
 pub fn choose(labels: usize, counts: &[u16; 64], rows: &[[bool; 64]; 64]) -> Chosen
-    requires { ⌜ (labels ≤ 64) × Falls (atOrBelow (now rows)) ⌝ }
-    ensures { λ r. ⌜ r ≡ chosenOf labels (entries (now (counts .entry))) (atOrBelow (now (rows .entry))) ⌝ }
+    requires { ⌜ (labels ≤ 64) × Falls (entryAt (now rows)) ⌝ }
+    ensures { λ r. ⌜ r ≡ chosenOf labels (entries (now (counts .entry))) (entryAt (now (rows .entry))) ⌝ }
 {
     let mut parents = [0u8; 64];
     let mut weights = [0u32; 64];
@@ -151,7 +151,7 @@ pub fn choose(labels: usize, counts: &[u16; 64], rows: &[[bool; 64]; 64]) -> Cho
 // Whether label `m` is in the smallest set of label `l`: at or below it, and the top or under a parent that is not.
 pub fn in_smallest(rows: &[[bool; 64]; 64], parents: &[u8; 64], l: usize, m: usize) -> bool
     requires { ⌜ (l < 64) × (m < 64) × (entries (now parents) m < 64) ⌝ }
-    ensures { λ r. ⌜ r ≡ inSmallest (atOrBelow (now (rows .entry))) (entries (now (parents .entry))) l m ⌝ }
+    ensures { λ r. ⌜ r ≡ inSmallest (entryAt (now (rows .entry))) (entries (now (parents .entry))) l m ⌝ }
 {
     let parent = wide(parents[m]);
     rows[m][l] & ((m == 0) | !rows[parent][l])
@@ -176,8 +176,8 @@ fn with_label(
     m: usize,
     sizes: [u8; 64],
 ) -> [u8; 64]
-    requires { ⌜ (labels ≤ 64) × (m < labels) × Rowed labels (now parents) × (sizes ≡ sizesBelow labels (atOrBelow (now rows)) (entries (now parents)) m) ⌝ }
-    ensures { λ r. ⌜ r ≡ sizesBelow labels (atOrBelow (now (rows .entry))) (entries (now (parents .entry))) (m + 1) ⌝ }
+    requires { ⌜ (labels ≤ 64) × (m < labels) × Rowed labels (now parents) × (sizes ≡ sizesBelow labels (entryAt (now rows)) (entries (now parents)) m) ⌝ }
+    ensures { λ r. ⌜ r ≡ sizesBelow labels (entryAt (now (rows .entry))) (entries (now (parents .entry))) (m + 1) ⌝ }
 {
     let mut next = [0u8; 64];
     let mut l = 0;
@@ -192,7 +192,7 @@ fn with_label(
 // The size of each label's smallest set.
 pub fn set_sizes(labels: usize, rows: &[[bool; 64]; 64], parents: &[u8; 64]) -> [u8; 64]
     requires { ⌜ (labels ≤ 64) × Rowed labels (now parents) ⌝ }
-    ensures { λ r. ⌜ r ≡ sizeTable labels (atOrBelow (now (rows .entry))) (entries (now (parents .entry))) ⌝ }
+    ensures { λ r. ⌜ r ≡ sizeTable labels (entryAt (now (rows .entry))) (entries (now (parents .entry))) ⌝ }
 {
     let mut sizes = [0u8; 64];
     let mut m = 0;

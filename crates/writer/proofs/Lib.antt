@@ -1,4 +1,1 @@
-pub mod Parts
-pub mod Hanging
-pub mod Marks
 pub mod Recorded

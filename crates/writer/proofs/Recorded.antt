@@ -1,16 +1,17 @@
--- Laws of one label's record, also from the tables, and of the records and places of the labels below a number with one label more.
+-- Laws of one label's record from the tables, and of marks, records and places of the labels below a number with one label more.
 use Prim.Native.Nat.{ℕ, zero, suc, _+_, _≤_, _<_}
 use mathlib.Core.Bool.{Bool, true, false, cond, false≢true}
 use mathlib.Core.List.{List, [], _++_}
 use mathlib.Core.Logic.{⊎-elim, _≢_}
-use mathlib.Core.Path.{_≡_, refl, sym, ap, _∙_}
+use mathlib.Core.Path.{_≡_, refl, sym, ap, ap₂, _∙_}
 use native.Mathlib.Nat.{eq-or-lt-of-le}
 use native.Mathlib.Numerals.{add-one}
 use native.Mathlib.Omega.{arith}
 use borrow.Author.Tests.{eq-eqb}
-use lib.ListN.{length, length-append}
+use lib.ListN.{length, set, length-append}
 use Rattle.lists.specs.Tables.{filled}
-use Rattle.lists.proofs.Tables.{getD-filled}
+use Rattle.lists.proofs.Tables.{getD-filled, fill-more}
+use Rattle.policy_file.specs.File.{nameOf}
 use Rattle.trees.specs.Trees.{top}
 use Rattle.trees.specs.Weights.{inSmallest}
 use Rattle.weights.specs.Tables.{entries}
@@ -19,7 +20,13 @@ use Rattle.envelopes.specs.Secrets.{secretOf}
 use Rattle.envelopes.specs.Envelope.{heldRecord, underRecord, header, placeBelow, recordOf, recordsBelow, envelopeOf}
 use Rattle.envelopes.proofs.Places.{place-here, place-skip}
 use Rattle.envelopes.proofs.Written.{records-here, records-skip}
-use Rattle.writer.specs.Asks.{ParentsFall, isMarked, secretAt, Made}
+use Rattle.record_writer.specs.Either.{labelRecord}
+use Rattle.secrets.specs.Asks.{ParentsFall, isMarked, secretAt, Made}
+
+-- the marks are filled in from the front
+pub mark-filled : (f : ℕ → Bool) (marks : List Bool) (n : ℕ) (mark : Bool) → marks ≡ filled 64 false f n → mark ≡ f n → n < 64
+    → set marks n mark ≡ filled 64 false f (n + 1)
+mark-filled f marks n mark e h l = ap₂ (λ (t : List Bool) (b : Bool). set t n b) e h ∙ fill-more f 64 false n l
 
 module _ (le : ℕ → ℕ → Bool) (l m k : ℕ) (e : k ≡ placeBelow le l m) where
   -- the next label's place, label m being at or below l or not
@@ -35,22 +42,11 @@ pub under-other : (le : ℕ → ℕ → Bool) (parent : ℕ → ℕ) (l m : ℕ)
 unfolding inSmallest
 under-other le parent l m held y e f q = false≢true (sym f ∙ e ∙ rw (y, eq-eqb m top q))
 
--- a record, by whether the secret is held
-module _ (own name secret : List ℕ) (place : ℕ) (held : Bool) (n : own ≡ name) where
-  abbrev either : Bool → List ℕ
-  either h = cond h (heldRecord name secret) (underRecord name place)
-
-  pub held-record : held ≡ true → heldRecord own secret ≡ cond held (heldRecord name secret) (underRecord name place)
-  held-record t = ap (λ (s : List ℕ). heldRecord s secret) n ∙ ap either (sym t)
-
-  pub under-record : held ≡ false → underRecord own place ≡ cond held (heldRecord name secret) (underRecord name place)
-  under-record f = ap (λ (s : List ℕ). underRecord s place) n ∙ ap either (sym f)
-
 module _ (name : ℕ → List ℕ) (le : ℕ → ℕ → Bool) (parent : ℕ → ℕ) (root : List ℕ) (l : ℕ) where
   -- the record of label m, by whether it is in the smallest set
   pub record-made : (m : ℕ) (held : Bool) (secret : List ℕ) (place : ℕ) → held ≡ inSmallest le parent l m
       → (held ≡ true → secret ≡ secretOf name parent root m) → (held ≡ false → place ≡ placeBelow le l (parent m))
-      → cond held (heldRecord (name m) secret) (underRecord (name m) place) ≡ recordOf name le parent root l m
+      → labelRecord held (name m) secret place ≡ recordOf name le parent root l m
   unfolding recordOf
   record-made m true secret place e s p = ap (heldRecord (name m)) (s refl) ∙ rw (sym e)
   record-made m false secret place e s p = ap (underRecord (name m)) (p refl) ∙ rw (sym e)
@@ -83,13 +79,13 @@ module _ (name : ℕ → List ℕ) (le : ℕ → ℕ → Bool) (parent : ℕ →
   envelope-parts n account own e = ap (λ (s : List ℕ). header account s ++ recordsBelow name le parent root l n) e
 
 -- the same record from the tables of held labels, of secrets and of places
-module _ (le : ℕ → ℕ → Bool) (l : ℕ) {name : ℕ → List ℕ} {parents root : List ℕ} {labels : ℕ} {held : List Bool} {secrets : List (List ℕ)} {places : List ℕ}
-    (h : held ≡ filled 64 false (inSmallest le (entries parents) l) labels) (d : Made name parents root held secrets labels)
+module _ (le : ℕ → ℕ → Bool) (l : ℕ) {file parents root : List ℕ} {labels : ℕ} {held : List Bool} {secrets : List (List ℕ)} {places : List ℕ}
+    (h : held ≡ filled 64 false (inSmallest le (entries parents) l) labels) (d : Made file parents root held secrets labels)
     (p : places ≡ filled 64 0 (placeBelow le l) labels) (falls : ParentsFall parents labels) where
   pub table-record : (m : ℕ) → m < labels → le m l ≡ true
-      → cond (isMarked held m) (heldRecord (name m) (secretAt secrets m)) (underRecord (name m) (entries places (entries parents m)))
-      ≡ recordOf name le (entries parents) root l m
-  table-record m lt y = record-made name le (entries parents) root l m (isMarked held m) (secretAt secrets m) (entries places (entries parents m)) is (d .secret m lt) place
+      → labelRecord (isMarked held m) (nameOf file m) (secretAt secrets m) (entries places (entries parents m))
+      ≡ recordOf (nameOf file) le (entries parents) root l m
+  table-record m lt y = record-made (nameOf file) le (entries parents) root l m (isMarked held m) (secretAt secrets m) (entries places (entries parents m)) is (d .secret m lt) place
     where
       is : isMarked held m ≡ inSmallest le (entries parents) l m
       is = ap (λ (t : List Bool). isMarked t m) h ∙ getD-filled (inSmallest le (entries parents) l) 64 false labels m false lt

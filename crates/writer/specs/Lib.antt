@@ -1,1 +1,1 @@
-pub mod Asks
+pub mod Tabled

@@ -11,9 +11,14 @@ use Rattle.command.proofs.temporary_name.Tie as tie
 sub-if2 : tie.Need-sub-if2
 sub-if2 c = search needs
 
+refuse-requires : tie.Need-refuse-requires
+refuse-requires c κs = search needs
+
 returns : tie.Need-returns
-returns c = let a = c .before .before .before .args in
-    ⊎-elim (λ w. temporary-none (a .path .now) (a .name .now) (omega arith)) (λ w. temporary-none (a .path .now) (a .name .now) (omega (arith, ltb-true))) (c .if1 .came)
+returns c =
+    let a = c .before .before .before .before .args in
+    let none = temporary-none (a .path .now) (a .name .now) (c .refuse .ensures) in
+    ⊎-elim (λ w. none (omega arith)) (λ w. none (omega (arith, ltb-true))) (c .before .if1 .came)
 
 put-bytes-requires : tie.Need-put-bytes-requires
 put-bytes-requires c κs = search needs
@@ -37,6 +42,7 @@ temporary-name-spec =
     tie.close
     (tie.spec
     sub-if2
+    refuse-requires
     returns
     put-bytes-requires
     slice-aggregate-put-bytes

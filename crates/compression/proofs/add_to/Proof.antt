@@ -52,7 +52,17 @@ add-requires-8 : tie.Need-add-requires-8
 add-requires-8 c κs = search needs
 
 returns : tie.Need-returns
-returns c = cc
+returns c =
+    rw (
+      c .before .add8 .ensures,
+      c .before .before .before .add7 .ensures,
+      c .before .before .before .before .before .add6 .ensures,
+      c .before .before .before .before .before .before .before .add5 .ensures,
+      c .before .before .before .before .before .before .before .before .before .add4 .ensures,
+      c .before .before .before .before .before .before .before .before .before .before .before .add3 .ensures,
+      c .before .before .before .before .before .before .before .before .before .before .before .before .before .add2 .ensures,
+      c .before .before .before .before .before .before .before .before .before .before .before .before .before .before .before .add .ensures,
+    )
 
 pub add-to-spec : {M : Type 1} → statement M
 add-to-spec =

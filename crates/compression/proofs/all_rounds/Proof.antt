@@ -1,5 +1,5 @@
 -- `compression::all_rounds` meets its contract.
-use mathlib.Core.Path.{refl, _≡_}
+use mathlib.Core.Path.{refl, _∙_, _≡_}
 use Prim.Native.Nat.{_≤_, _-_, _%_}
 use native.Mathlib.Omega.{arith}
 use borrow.Author.Needs.{needs}
@@ -112,7 +112,7 @@ loop-again c =
     )
 
 returns : tie.Need-returns Inv-loop μ-loop
-returns c = let e : c .before .loop .t ≡ 64 = omega arith in cc
+returns c = let e : c .before .loop .t ≡ 64 = omega arith in c .before .loop .inv .2 ∙ rw e
 
 pub all-rounds-spec : {M : Type 1} → statement M
 all-rounds-spec =

@@ -30,7 +30,13 @@ returns c =
     let l = c .before .before .before .before .before .before .before .before in
     let b = l .before .before .before .args .block .now in
     let s : extended (take 16 (l .load .last .1 .0)) 48 ≡ schedule b = loaded-schedule b (l .load .last .1 .0) (drop 16 (replicate 64 0)) (l .load .ensures) in
-    cc
+    rw (
+      c .add-to .ensures,
+      c .before .before .all-rounds .ensures,
+      c .before .before .before .before .started .ensures,
+      c .before .before .before .before .before .before .extend .ensures,
+      s,
+    )
 
 pub compress-spec : {M : Type 1} → statement M
 compress-spec =

@@ -86,7 +86,14 @@ loop-less c = search needs
 loop-again : tie.Need-loop-again Inv-loop μ-loop
 loop-again c =
     let a = c .before .before .before .before .before .before .before .before .before .before in
-    let x : c .add3 .result ≡ next (a .loop .w) (a .loop .t) = cc in
+    let x : c .add3 .result ≡ next (a .loop .w) (a .loop .t) =
+    rw (
+      c .add3 .ensures,
+      c .before .before .add2 .ensures,
+      c .before .before .before .small-sigma0 .ensures,
+      c .before .before .before .before .before .add .ensures,
+      c .before .before .before .before .before .before .before .small-sigma1 .ensures,
+    ) in
     (search needs, search needs, rw x (extend-turn (a .before .args .w .now) (a .before .pre) (a .loop .w) (a .loop .t) (omega arith) (omega arith) (a .loop .inv .2)))
 
 returns : tie.Need-returns Inv-loop μ-loop

@@ -1,5 +1,5 @@
 -- `compression::load` meets its contract. The invariant: the words of the block up to `t` are stored, the rest of `w` is as it was.
-use mathlib.Core.Path.{refl, _≡_}
+use mathlib.Core.Path.{refl, _∙_, _≡_}
 use mathlib.Core.List.{_++_}
 use Prim.Native.Nat.{_≤_, _-_}
 use native.Mathlib.Omega.{arith}
@@ -44,7 +44,7 @@ loop-again c =
     )
 
 returns : tie.Need-returns Inv-loop μ-loop
-returns c = let e : c .before .loop .t ≡ 16 = omega arith in cc
+returns c = let e : c .before .loop .t ≡ 16 = omega arith in c .before .loop .inv .1 ∙ rw e
 
 pub load-spec : {M : Type 1} → statement M
 load-spec =

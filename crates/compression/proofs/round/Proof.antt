@@ -18,7 +18,13 @@ add-requires-2 c κs = search needs
 
 returns : tie.Need-returns
 unfolding roundOf
-returns c = cc
+returns c =
+    rw (
+      c .add2 .ensures,
+      c .before .add .ensures,
+      c .before .before .temp2 .ensures,
+      c .before .before .before .temp1 .ensures,
+    )
 
 pub round-spec : {M : Type 1} → statement M
 round-spec = tie.close (tie.spec temp1-requires temp2-requires add-requires add-requires-2 returns)

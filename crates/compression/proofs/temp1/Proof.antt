@@ -22,7 +22,15 @@ add-requires-4 : tie.Need-add-requires-4
 add-requires-4 c κs = search needs
 
 returns : tie.Need-returns
-returns c = cc
+returns c =
+    rw (
+      c .add4 .ensures,
+      c .before .add3 .ensures,
+      c .before .before .add2 .ensures,
+      c .before .before .before .ch .ensures,
+      c .before .before .before .before .add .ensures,
+      c .before .before .before .before .before .big-sigma1 .ensures,
+    )
 
 pub temp1-spec : {M : Type 1} → statement M
 temp1-spec =

@@ -13,7 +13,7 @@ add-requires : tie.Need-add-requires
 add-requires c κs = search needs
 
 returns : tie.Need-returns
-returns c = cc
+returns c = rw (c .add .ensures, c .before .maj .ensures, c .before .before .big-sigma0 .ensures)
 
 pub temp2-spec : {M : Type 1} → statement M
 temp2-spec = tie.close (tie.spec big-sigma0-requires maj-requires add-requires returns)

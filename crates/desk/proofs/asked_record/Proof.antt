@@ -4,11 +4,11 @@ use native.Mathlib.Omega.{arith}
 use borrow.Author.Needs.{needs}
 use denote.Ref.{now}
 use lib.Seq.{take-all}
-use Rattle.desk.proofs.Asked.{asked-whole, asked-none}
+use Rattle.envelope_file.proofs.Asked.{asked-whole, asked-none}
 use Rattle.desk.proofs.asked_record.Statement.{statement}
 use Rattle.desk.proofs.asked_record.Tie as tie
-use Rattle.desk.specs.File.{recordNamed}
-use Rattle.desk.specs.Rows.{other-length}
+use Rattle.envelope_file.specs.File.{recordNamed}
+use Rattle.envelope_file.specs.Rows.{other-length}
 
 returns : tie.Need-returns
 returns c =

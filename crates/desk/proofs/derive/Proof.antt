@@ -3,10 +3,10 @@ use mathlib.Core.Path.{_≡_, sym, _∙_}
 use native.Mathlib.Omega.{arith}
 use borrow.Author.Needs.{needs}
 use denote.Ref.{now}
-use Rattle.desk.proofs.Deriving.{refused-answer, read-located, found-located, found-falling, found-answer, none-answer}
+use Rattle.envelope_file.proofs.Deriving.{refused-answer, read-located, found-located, found-placed, found-falling, found-answer, none-answer}
 use Rattle.desk.proofs.derive.Statement.{statement}
 use Rattle.desk.proofs.derive.Tie as tie
-use Rattle.desk.specs.Derive.{refusedDerived}
+use Rattle.envelope_file.specs.Derive.{refusedDerived}
 
 read-envelope-requires : tie.Need-read-envelope-requires
 read-envelope-requires c κs = search needs
@@ -23,7 +23,7 @@ returns c =
 
 asked-record-requires : tie.Need-asked-record-requires
 asked-record-requires c κs =
-    let b = c .before .before in
+    let b = c .before .before .before in
     let start = b .before .before .before .before .before in
     let file = now (start .args .envelope) in
     let read = b .before .before .read-envelope in
@@ -34,13 +34,14 @@ enum-known-k c = search needs
 
 derive-record-requires : tie.Need-derive-record-requires
 derive-record-requires c κs =
-    let b = c .before .before .before .before .before .before .before in
+    let b = c .before .before .before .before .before .before .before .before .before in
     let start = b .before .before .before .before .before in
     let file = now (start .args .envelope) in
     let read = b .before .before .read-envelope in
-    let asked = c .before .before .before .before .asked-record in
-    let told = c .before .before .k .given in (
+    let asked = c .before .before .before .before .before .asked-record in
+    let told = c .before .before .before .k .given in (
       found-located file (read .result) (read .ensures) (b .if1 .left) (now (start .args .name)) (asked .result) (asked .ensures) (told .0 .0) (told .1),
+      found-placed file (read .result) (read .ensures) (b .if1 .left) (now (start .args .name)) (asked .result) (asked .ensures) (told .0 .0) (told .1),
       found-falling file (read .result) (read .ensures) (b .if1 .left) (now (start .args .name)) (asked .result) (asked .ensures) (told .0 .0) (told .1),
     )
 
@@ -52,18 +53,18 @@ refuse-requires-2 c κs = search needs
 
 returns-2 : tie.Need-returns-2
 returns-2 c =
-    let b = c .before .before .before .before .before .before .before .before in
+    let b = c .before .before .before .before .before .before .before .before .before .before in
     let start = b .before .before .before .before .before in
     let file = now (start .args .envelope) in
     let read = b .before .before .read-envelope in
-    let asked = c .before .before .before .before .before .asked-record in
-    let told = c .before .before .before .k .given in
+    let asked = c .before .before .before .before .before .before .asked-record in
+    let told = c .before .before .before .before .k .given in
     c .derive-record .ensures
     ∙ sym (found-answer file (read .result) (read .ensures) (b .if1 .left) (now (start .args .name)) (asked .result) (asked .ensures) (told .0 .0) (told .1))
 
 returns-3 : tie.Need-returns-3
 returns-3 c =
-    let b = c .before .before .before .before .before .before in
+    let b = c .before .before .before .before .before .before .before in
     let start = b .before .before .before .before .before in
     let file = now (start .args .envelope) in
     let read = b .before .before .read-envelope in

@@ -7,12 +7,12 @@ use borrow.Author.Needs.{needs}
 use denote.Ref.{now}
 use lib.ListN.{getD}
 use Rattle.hmac.specs.Secrets.{labelKey}
-use Rattle.desk.proofs.Starts.{room, name-there, located-fewer, falling-fewer}
+use Rattle.envelope_file.proofs.Starts.{room, name-there}
 use Rattle.desk.proofs.derive_record.Statement.{statement}
 use Rattle.desk.proofs.derive_record.Tie as tie
-use Rattle.desk.specs.Derive.{walkTo, derivedAt}
-use Rattle.desk.specs.File.{nameIn}
-use Rattle.desk.specs.declared.Walk.{Walk}
+use Rattle.envelope_file.specs.Derive.{walkTo, derivedAt}
+use Rattle.envelope_file.specs.File.{nameIn}
+use Rattle.envelope_file.specs.declared.Walk.{Walk}
 
 -- the key and the count of applications, from the way to the record's secret
 derived-made : (file : List ℕ) (k : ℕ) (walk : Walk) (key : List ℕ) → walk ≡ walkTo file k → key ≡ labelKey (walk .secret) (nameIn file k)
@@ -23,7 +23,7 @@ derived-made file k walk key w e =
     ∙ ap (λ (v : Walk). record { refusal = 0; key = labelKey (v .secret) (nameIn file k); applications = v .steps + 1 }) w
 
 walk-to-requires : tie.Need-walk-to-requires
-walk-to-requires c κs = (located-fewer (omega arith) (c .before .pre .0), falling-fewer (omega arith) (c .before .pre .1))
+walk-to-requires c κs = c .before .pre
 
 add-applications : tie.Need-add-applications
 add-applications c = omega (arith, c .before .before .walk-to .ensures .1, c .before .before .before .before .pre .0 .few)

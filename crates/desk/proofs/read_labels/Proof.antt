@@ -3,11 +3,11 @@ use mathlib.Core.Path.{_≡_, sym, _∙_}
 use native.Mathlib.Omega.{arith}
 use borrow.Author.Needs.{needs}
 use denote.Ref.{now}
-use Rattle.desk.proofs.Deriving.{read-located}
-use Rattle.desk.proofs.Labelled.{refused-answer, header-whole, read-answer}
+use Rattle.envelope_file.proofs.Deriving.{read-located}
+use Rattle.envelope_file.proofs.Labelled.{refused-answer, header-whole, read-answer}
 use Rattle.desk.proofs.read_labels.Statement.{statement}
 use Rattle.desk.proofs.read_labels.Tie as tie
-use Rattle.desk.specs.Labels.{refusedLabels}
+use Rattle.envelope_file.specs.Labels.{refusedLabels}
 
 read-envelope-requires : tie.Need-read-envelope-requires
 read-envelope-requires c κs = search needs

@@ -5,11 +5,11 @@ use native.Mathlib.Omega.{arith}
 use denote.Ref.{now}
 use lib.ListN.{getD}
 use Rattle.lists.specs.Tables.{listed, filled}
-use Rattle.desk.proofs.Names.{byte-stored}
-use Rattle.desk.proofs.Starts.{room}
+use Rattle.envelope_file.proofs.Names.{byte-stored}
+use Rattle.envelope_file.proofs.Starts.{room}
 use Rattle.desk.proofs.read_names.Statement.{statement}
 use Rattle.desk.proofs.read_names.Tie as tie
-use Rattle.desk.specs.Labels.{nameByte}
+use Rattle.envelope_file.specs.Labels.{nameByte}
 
 abbrev Inv-loop : tie.InvT-loop
 Inv-loop envelope records starts names₀ i₀ names i = (i ≤ 8 * records) × (names ≡ filled 512 0 (nameByte envelope) i)

@@ -1,7 +1,7 @@
 -- `dot::put_node` meets its contract.
 use native.Mathlib.Omega.{arith}
 use lib.ListN.{getD}
-use Rattle.policy.specs.File.{countOf}
+use Rattle.policy_file.specs.File.{countOf}
 use Rattle.buffers.proofs.Writes.{put-next}
 use Rattle.dot.specs.Drawing.{labelled, between, fields}
 use Rattle.dot.proofs.Parts.{node-parts, node-length}

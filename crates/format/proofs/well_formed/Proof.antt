@@ -36,7 +36,7 @@ returns : tie.Need-returns Inv-loop μ-loop
 returns c =
     let l = c .before .before .before .before .before .before .loop in
     let name = now (c .before .before .before .before .before .before .before .before .args .name) in
-    let e : Letter ≡ classOf (getD name (l .i) 0) = cc in
+    let e : Letter ≡ classOf (getD name (l .i) 0) = sym (c .before .enum-told .given .1) ∙ c .before .before .before .class-of .ensures in
     sym (l .inv .1 ∙ rest-late name (l .i) (omega arith) Letter refl e (l .some) (l .padded) (c .if1 .taken))
 
 loop-less : tie.Need-loop-less Inv-loop μ-loop
@@ -46,7 +46,7 @@ loop-again : tie.Need-loop-again Inv-loop μ-loop
 loop-again c =
     let l = c .before .before .before .before .before .before .loop in
     let name = now (c .before .before .before .before .before .before .before .before .args .name) in
-    let e : Letter ≡ classOf (getD name (l .i) 0) = cc in
+    let e : Letter ≡ classOf (getD name (l .i) 0) = sym (c .before .enum-told .given .1) ∙ c .before .before .before .class-of .ensures in
     (omega arith, l .inv .1 ∙ rest-sign name (l .i) (omega arith) Letter refl (λ rest pad. refl) e (l .some) (l .padded) (c .if1 .left))
 
 enum-told-2 : tie.Need-enum-told-2 Inv-loop μ-loop
@@ -56,7 +56,7 @@ returns-2 : tie.Need-returns-2 Inv-loop μ-loop
 returns-2 c =
     let l = c .before .before .before .before .before .before .loop in
     let name = now (c .before .before .before .before .before .before .before .before .args .name) in
-    let e : Digit ≡ classOf (getD name (l .i) 0) = cc in
+    let e : Digit ≡ classOf (getD name (l .i) 0) = sym (c .before .enum-told2 .given .1) ∙ c .before .before .before .class-of .ensures in
     sym (l .inv .1 ∙ rest-late name (l .i) (omega arith) Digit refl e (l .some) (l .padded) (c .if2 .taken))
 
 loop-less-2 : tie.Need-loop-less-2 Inv-loop μ-loop
@@ -66,7 +66,7 @@ loop-again-2 : tie.Need-loop-again-2 Inv-loop μ-loop
 loop-again-2 c =
     let l = c .before .before .before .before .before .before .loop in
     let name = now (c .before .before .before .before .before .before .before .before .args .name) in
-    let e : Digit ≡ classOf (getD name (l .i) 0) = cc in
+    let e : Digit ≡ classOf (getD name (l .i) 0) = sym (c .before .enum-told2 .given .1) ∙ c .before .before .before .class-of .ensures in
     (omega arith, l .inv .1 ∙ rest-sign name (l .i) (omega arith) Digit refl (λ rest pad. refl) e (l .some) (l .padded) (c .if2 .left))
 
 enum-told-3 : tie.Need-enum-told-3 Inv-loop μ-loop
@@ -79,7 +79,7 @@ loop-again-3 : tie.Need-loop-again-3 Inv-loop μ-loop
 loop-again-3 c =
     let l = c .before .before .before .before .before .loop in
     let name = now (c .before .before .before .before .before .before .before .args .name) in
-    let e : Space ≡ classOf (getD name (l .i) 0) = cc in
+    let e : Space ≡ classOf (getD name (l .i) 0) = sym (c .enum-told3 .given .1) ∙ c .before .before .class-of .ensures in
     (omega arith, l .inv .1 ∙ rest-space name (l .i) (omega arith) e (l .some) (l .padded))
 
 enum-told-4 : tie.Need-enum-told-4 Inv-loop μ-loop
@@ -89,7 +89,7 @@ returns-3 : tie.Need-returns-3 Inv-loop μ-loop
 returns-3 c =
     let l = c .before .before .before .before .before .loop in
     let name = now (c .before .before .before .before .before .before .before .args .name) in
-    let e : Refused ≡ classOf (getD name (l .i) 0) = cc in
+    let e : Refused ≡ classOf (getD name (l .i) 0) = sym (c .enum-told4 .given .1) ∙ c .before .before .class-of .ensures in
     sym (l .inv .1 ∙ rest-refused name (l .i) (omega arith) e (l .some) (l .padded))
 
 returns-4 : tie.Need-returns-4 Inv-loop μ-loop

@@ -3,8 +3,8 @@ use mathlib.Core.Logic.{inl, inr}
 use mathlib.Core.Path.{sym}
 use native.Mathlib.Omega.{arith}
 use borrow.Author.Needs.{needs}
-use Rattle.policy.specs.File.{countOf}
-use Rattle.issuer.proofs.Answers.{account-none, account-15, account-given}
+use Rattle.policy_file.specs.File.{countOf}
+use Rattle.issuer_answers.proofs.Answers.{account-none, account-15, account-given}
 use Rattle.issuer.proofs.account_refusal.Statement.{statement}
 use Rattle.issuer.proofs.account_refusal.Tie as tie
 

@@ -1,7 +1,7 @@
 -- `issuer::asked_label` meets its contract.
 use mathlib.Core.Path.{sym, _∙_}
 use borrow.Author.Needs.{needs}
-use Rattle.issuer.proofs.Asked.{asked-other, asked-read}
+use Rattle.issuer_answers.proofs.Asked.{asked-other, asked-read}
 use Rattle.issuer.proofs.asked_label.Statement.{statement}
 use Rattle.issuer.proofs.asked_label.Tie as tie
 

@@ -4,8 +4,8 @@ use mathlib.Core.Path.{sym, ap, _∙_}
 use native.Mathlib.Omega.{arith}
 use lib.ListN.{length, replicate}
 use borrow.Author.Needs.{needs}
-use Rattle.issuer.specs.Issue.{refusedIssue}
-use Rattle.issuer.proofs.Answers.{account-whole, issue-policy, asked-13, number-refuses, issued-at, buffer-at}
+use Rattle.buffers.specs.Handed.{refusedWritten}
+use Rattle.issuer_answers.proofs.Answers.{account-whole, issue-policy, asked-13, number-refuses, issued-at, buffer-at}
 use Rattle.issuer.proofs.Tables.{plan-number, plan-within, plan-accepted, plan-rows, plan-hung, asked-told, told-below, told-within, envelope-made}
 use Rattle.issuer.proofs.issue.Statement.{statement}
 use Rattle.issuer.proofs.issue.Tie as tie
@@ -17,7 +17,7 @@ returns c =
     let out = a .envelope .now in
     let number = plan-number (a .policy .now) (p .plan-order .ensures .0) in
     let refused = issue-policy (a .policy .now) (a .name .now) (a .account) (a .root .now) (omega arith) in
-    (c .refuse-issue .ensures ∙ ap refusedIssue number ∙ sym (refused .issues (length out)), sym (refused .leaves out))
+    (c .refuse .ensures ∙ ap refusedWritten number ∙ sym (refused .issues (length out)), sym (refused .leaves out))
 
 returns-2 : tie.Need-returns-2
 returns-2 c =
@@ -31,7 +31,7 @@ returns-2 c =
     let ok = plan-accepted (a .policy .now) same (f .before .if1 .left) in
     let at = asked-told (a .policy .now) same (a .name .now) (f .asked-label .ensures) (l .l .given .1) in
     let refused = number-refuses (a .policy .now) (a .name .now) (a .account) (a .root .now) ok at (n .account-refusal .ensures) (omega arith) in
-    (c .refuse-issue2 .ensures ∙ sym (refused .issues (length out)), sym (refused .leaves out))
+    (c .refuse2 .ensures ∙ sym (refused .issues (length out)), sym (refused .leaves out))
 
 returns-3 : tie.Need-returns-3
 returns-3 c =
@@ -64,13 +64,13 @@ returns-4 c =
     let ok = plan-accepted (a .policy .now) same (f .before .if1 .left) in
     let none = asked-told (a .policy .now) same (a .name .now) (f .asked-label .ensures) (c .before .enum-told .given .1) in
     let refused = asked-13 (a .policy .now) (a .name .now) (a .account) (a .root .now) ok none in
-    (c .refuse-issue3 .ensures ∙ sym (refused .issues (length out)), sym (refused .leaves out))
+    (c .refuse3 .ensures ∙ sym (refused .issues (length out)), sym (refused .leaves out))
 
 plan-order-requires : tie.Need-plan-order-requires
 plan-order-requires c κs = search needs
 
-refuse-issue-requires : tie.Need-refuse-issue-requires
-refuse-issue-requires c κs = search needs
+refuse-requires : tie.Need-refuse-requires
+refuse-requires c κs = search needs
 
 asked-label-requires : tie.Need-asked-label-requires
 asked-label-requires c κs =
@@ -88,8 +88,8 @@ account-refusal-requires c κs =
     let a = p .before .before .before .before .before .before .args in
     told-within (a .policy .now) (p .plan-order .ensures .0) (a .name .now) (f .asked-label .ensures) (l .l .given .1)
 
-refuse-issue-requires-2 : tie.Need-refuse-issue-requires-2
-refuse-issue-requires-2 c κs = search needs
+refuse-requires-2 : tie.Need-refuse-requires-2
+refuse-requires-2 c κs = search needs
 
 read-secret-requires : tie.Need-read-secret-requires
 read-secret-requires c κs =
@@ -110,8 +110,8 @@ issue-label-requires c κs =
 enum-told : tie.Need-enum-told
 enum-told c = search needs
 
-refuse-issue-requires-3 : tie.Need-refuse-issue-requires-3
-refuse-issue-requires-3 c κs = search needs
+refuse-requires-3 : tie.Need-refuse-requires-3
+refuse-requires-3 c κs = search needs
 
 same-length : tie.Need-same-length
 same-length c = search needs
@@ -121,17 +121,17 @@ issue-spec =
     tie.close
     (tie.spec
     plan-order-requires
-    refuse-issue-requires
+    refuse-requires
     returns
     asked-label-requires
     enum-known-l
     account-refusal-requires
-    refuse-issue-requires-2
+    refuse-requires-2
     returns-2
     read-secret-requires
     issue-label-requires
     enum-told
-    refuse-issue-requires-3
+    refuse-requires-3
     same-length
     returns-3
     returns-4)

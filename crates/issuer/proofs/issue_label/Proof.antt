@@ -1,14 +1,11 @@
 -- `issuer::issue_label` meets its contract.
-use mathlib.Core.Path.{ap}
 use native.Mathlib.Omega.{arith}
 use lib.ListN.{length}
 use borrow.Author.Needs.{needs}
-use Rattle.envelopes.specs.Envelope.{envelopeOf}
-use Rattle.order.specs.Table.{atOrBelow}
-use Rattle.policy.specs.File.{nameOf}
+use Rattle.order.specs.Table.{entryAt}
 use Rattle.weights.specs.Tables.{entries}
 use Rattle.buffers.proofs.Handed.{front-length, front-handed, front-left}
-use Rattle.issuer.specs.Issue.{issued}
+use Rattle.writer.specs.Tabled.{tableEnvelope}
 use Rattle.issuer.proofs.Handing.{envelope-upto}
 use Rattle.issuer.proofs.issue_label.Statement.{statement}
 use Rattle.issuer.proofs.issue_label.Tie as tie
@@ -19,10 +16,9 @@ returns c =
     let w = h .before .before .before .before in
     let a = w .before .before .before .before .args in
     let out = a .envelope .now in
-    let e =
-    envelopeOf (nameOf (a .policy .now)) (atOrBelow (a .rows .now)) (entries (a .parents .now)) (a .root) (a .l) (a .labels) (a .account) in
+    let e = tableEnvelope (a .policy .now) (a .rows .now) (a .parents .now) (a .root) (a .l) (a .labels) (a .account) in
     let put = w .write-envelope .ensures in
-    (ap issued (front-handed {s = e} put (length out) (h .hand-out .ensures .0)), front-left {s = e} put out (h .hand-out .ensures .1))
+    (front-handed {s = e} put (length out) (h .hand-out .ensures .0), front-left {s = e} put out (h .hand-out .ensures .1))
 
 slice-aggregate-write-envelope : tie.Need-slice-aggregate-write-envelope
 slice-aggregate-write-envelope c = search needs
@@ -33,7 +29,7 @@ write-envelope-requires c κs =
     let a = s .args in (
       s .pre .0,
       s .pre .1,
-      envelope-upto (a .policy .now) (atOrBelow (a .rows .now)) (entries (a .parents .now)) (a .root) (a .l) (omega arith) (a .labels) (a .account) (s .pre .0 .few),
+      envelope-upto (a .policy .now) (entryAt (a .rows .now)) (entries (a .parents .now)) (a .root) (a .l) (omega arith) (a .labels) (a .account) (s .pre .0 .few),
     )
 
 array-share-prefix-written : tie.Need-array-share-prefix-written

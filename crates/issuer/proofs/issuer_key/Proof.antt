@@ -5,10 +5,10 @@ use mathlib.Core.Path.{_≡_, sym, ap, _∙_}
 use native.Mathlib.Omega.{arith}
 use lib.ListN.{length}
 use borrow.Author.Needs.{needs}
-use Rattle.policy.specs.File.{nameOf}
-use Rattle.issuer.specs.Keys.{refusedKey}
-use Rattle.issuer.specs.declared.IssuerKey.{IssuerKey}
-use Rattle.issuer.proofs.Answers.{key-policy, key-asked, key-13, key-15, key-given}
+use Rattle.policy_file.specs.File.{nameOf}
+use Rattle.issuer_answers.specs.Keys.{refusedKey}
+use Rattle.issuer_answers.specs.declared.IssuerKey.{IssuerKey}
+use Rattle.issuer_answers.proofs.Answers.{key-policy, key-asked, key-13, key-15, key-given}
 use Rattle.issuer.proofs.Tables.{plan-number, plan-within, plan-accepted, asked-told, told-within, told-hung, key-made}
 use Rattle.issuer.proofs.issuer_key.Statement.{statement}
 use Rattle.issuer.proofs.issuer_key.Tie as tie

@@ -1,7 +1,7 @@
 -- `licence::save_envelope` is safe: the length that `issue` answers lies within the buffer.
 use mathlib.Core.Path.{sym}
 use lib.Seq.{length-take-le}
-use Rattle.licence.proofs.Issuing.{issued-within}
+use Rattle.issuer_answers.proofs.Zeros.{issued-within}
 use borrow.Author.Needs.{needs}
 use Rattle.licence.proofs.save_envelope.Statement.{statement}
 use Rattle.licence.proofs.save_envelope.Tie as tie
@@ -32,11 +32,8 @@ slice-aggregate-save c = let w = c .before .before .before .before .issue in
 save-requires : tie.Need-save-requires
 save-requires c κs = search needs
 
-slice-aggregate-answer-number : tie.Need-slice-aggregate-answer-number
-slice-aggregate-answer-number c = search needs
-
-answer-number-requires : tie.Need-answer-number-requires
-answer-number-requires c κs = search needs
+answer-issued-requires : tie.Need-answer-issued-requires
+answer-issued-requires c κs = search needs
 
 returns-2 : tie.Need-returns-2
 returns-2 c = search needs
@@ -56,7 +53,6 @@ save-envelope-spec =
     array-share-prefix-envelope
     slice-aggregate-save
     save-requires
-    slice-aggregate-answer-number
-    answer-number-requires
+    answer-issued-requires
     returns-2
     returns-3)

@@ -2,10 +2,10 @@
 use native.Mathlib.Omega.{arith}
 use borrow.Author.Needs.{needs}
 use denote.Ref.{now}
-use Rattle.order.specs.Table.{atOrBelow}
+use Rattle.order.specs.Table.{entryAt}
 use Rattle.weights.specs.Choices.{chosenOf}
 use Rattle.weights.specs.Tables.{entries}
-use Rattle.planner.proofs.WorkedTables.{table-rowed, worked-plan}
+use Rattle.plan_answers.proofs.WorkedTables.{table-rowed, worked-plan}
 use Rattle.planner.proofs.plan_labels.Statement.{statement}
 use Rattle.planner.proofs.plan_labels.Tie as tie
 
@@ -25,7 +25,7 @@ unfolding chosenOf
 returns c =
     let a = c .before .before .before .before .before .before .before .args in
     rw (c .total-keys .ensures, c .before .before .set-sizes .ensures, c .before .before .before .before .before .before .choose .ensures)
-    (worked-plan (a .labels) (entries (now (a .counts))) (atOrBelow (now (a .rows))) (a .refusal))
+    (worked-plan (a .labels) (entries (now (a .counts))) (entryAt (now (a .rows))) (a .refusal))
 
 pub plan-labels-spec : {M : Type 1} → statement M
 plan-labels-spec =

@@ -1,7 +1,7 @@
 -- `planner::total_of` meets its contract: the total of the sizes is the tree's.
 use borrow.Author.Needs.{needs}
 use denote.Ref.{now}
-use Rattle.order.specs.Table.{atOrBelow}
+use Rattle.order.specs.Table.{entryAt}
 use Rattle.weights.proofs.Agree.{sizes-total}
 use Rattle.weights.specs.Tables.{entries}
 use Rattle.planner.proofs.total_of.Statement.{statement}
@@ -17,7 +17,7 @@ returns : tie.Need-returns
 returns c =
     let a = c .before .before .before .args in
     rw (c .total-keys .ensures, c .before .before .set-sizes .ensures)
-    (sizes-total (a .labels) (entries (now (a .counts))) (atOrBelow (now (a .rows))) (entries (now (a .parents))))
+    (sizes-total (a .labels) (entries (now (a .counts))) (entryAt (now (a .rows))) (entries (now (a .parents))))
 
 pub total-of-spec : {M : Type 1} → statement M
 total-of-spec = tie.close (tie.spec set-sizes-requires total-keys-requires returns)

@@ -4,14 +4,13 @@ use native.Mathlib.Omega.{arith}
 use borrow.Author.Needs.{needs}
 use denote.Ref.{now}
 use Rattle.order.proofs.Exact.{table-falls}
-use Rattle.policy.proofs.Verdict.{bounds}
-use Rattle.policy.specs.Whole.{policyOf}
-use Rattle.policy.specs.declared.Policy.{Policy}
-use Rattle.planner.proofs.WorkedTables.{read-few, read-accepted, read-order, read-number, gives, offered-rowed, read-weighed}
-use Rattle.planner.proofs.WeighAnswer.{weigh-policy-refused, weigh-tree-refused}
+use Rattle.policy_file.proofs.Verdict.{bounds}
+use Rattle.policy_file.specs.declared.Policy.{Policy}
+use Rattle.plan_answers.proofs.WorkedTables.{read-few, read-accepted, read-order, read-number, gives, offered-rowed, read-weighed}
+use Rattle.plan_answers.proofs.WeighAnswer.{weigh-policy-refused, weigh-tree-refused}
 use Rattle.planner.proofs.weigh.Statement.{statement}
 use Rattle.planner.proofs.weigh.Tie as tie
-use Rattle.planner.specs.Weighing.{refusedWeighed}
+use Rattle.plan_answers.specs.Weighing.{refusedWeighed}
 
 read-policy-requires : tie.Need-read-policy-requires
 read-policy-requires c κs = search needs
@@ -20,7 +19,6 @@ refused-requires : tie.Need-refused-requires
 refused-requires c κs = search needs
 
 returns : tie.Need-returns
-unfolding policyOf
 returns c =
     let a = c .before .before .before .before .before .before .args in
     let file = now (a .policy) in
@@ -49,7 +47,6 @@ returns-2 c =
     c .refused2 .ensures ∙ ap refusedWeighed number ∙ sym (weigh-tree-refused file tree ok (omega arith))
 
 read-parents-requires : tie.Need-read-parents-requires
-unfolding policyOf
 read-parents-requires c κs =
     let file = now (c .before .before .before .before .before .before .before .before .before .before .before .args .policy) in
     let tree = now (c .before .before .before .before .before .before .before .before .before .before .before .args .tree) in
@@ -60,7 +57,6 @@ read-parents-requires c κs =
     rw same (bounds file .0, omega (arith, gives file ok tree none .form .whole))
 
 weigh-tree-requires : tie.Need-weigh-tree-requires
-unfolding policyOf
 weigh-tree-requires c κs =
     let t = c .before .before .before .before in
     let file = now (t .before .before .before .before .before .before .before .before .before .before .before .args .policy) in
@@ -72,7 +68,6 @@ weigh-tree-requires c κs =
     rw (c .before .before .before .read-parents .ensures, table, same) (bounds file .0, table-falls _ _, offered-rowed file ok tree none)
 
 returns-3 : tie.Need-returns-3
-unfolding policyOf
 returns-3 c =
     let t = c .before .before .before .before .before in
     let file = now (t .before .before .before .before .before .before .before .before .before .before .before .args .policy) in

@@ -3,12 +3,12 @@ use mathlib.Core.Path.{ap, _∙_}
 use native.Mathlib.Omega.{arith}
 use borrow.Author.Needs.{needs}
 use denote.Ref.{now}
-use Rattle.order.specs.Table.{atOrBelow}
+use Rattle.order.specs.Table.{entryAt}
 use Rattle.trees.specs.Weights.{total}
 use Rattle.weights.specs.Choices.{chosenOf}
 use Rattle.weights.specs.Tables.{entries}
 use Rattle.weights.specs.declared.Chosen.{Chosen}
-use Rattle.planner.proofs.WorkedTables.{table-rowed, worked-answer}
+use Rattle.plan_answers.proofs.WorkedTables.{table-rowed, worked-answer}
 use Rattle.planner.proofs.weigh_tree.Statement.{statement}
 use Rattle.planner.proofs.weigh_tree.Tie as tie
 
@@ -29,7 +29,7 @@ returns c =
     let a = c .before .before .before .before .before .args in
     let n = a .labels in
     let count = entries (now (a .counts)) in
-    let le = atOrBelow (now (a .rows)) in
+    let le = entryAt (now (a .rows)) in
     let chosen = ap (λ (x : Chosen). total n count le (entries (x .parents))) (c .before .before .before .before .choose .ensures) in
     worked-answer n count le (entries (now (a .offered))) (c .total-of2 .result) (c .before .total-of .result) (c .total-of2 .ensures) (c .before .total-of .ensures ∙ chosen)
 

@@ -1,31 +1,31 @@
 -- `policy::lowers` meets its contract. Invariant: the lowers of the first k pairs are found.
-use Prim.Native.Nat.{_-_, _≤_, _<_}
+use Prim.Native.Nat.{_-_, _≤_}
 use mathlib.Core.Path.{_≡_}
 use native.Mathlib.Omega.{arith}
 use borrow.Author.Needs.{needs}
-use denote.Ref.{now}
 use Rattle.lists.specs.Tables.{listed}
 use Rattle.policy.proofs.Records.{no-lowers, lowers-more}
 use Rattle.policy.proofs.lowers.Statement.{statement}
 use Rattle.policy.proofs.lowers.Tie as tie
-use Rattle.policy.specs.Whole.{isLower}
+use Rattle.policy_file.specs.Whole.{isLower}
 
 abbrev Inv-loop : tie.InvT-loop
-Inv-loop policy labels pairs found₀ k₀ found k = (k ≤ pairs) × (found ≡ listed (isLower policy labels k) 256)
+Inv-loop pairs over found₀ k₀ found k = (k ≤ pairs) × (found ≡ listed (isLower over k) 256)
 
 abbrev μ-loop : tie.MeasureT-loop
-μ-loop policy labels pairs found₀ k₀ found k = pairs - k
+μ-loop pairs over found₀ k₀ found k = pairs - k
 
 loop-holds : tie.Need-loop-holds Inv-loop μ-loop
-loop-holds c =
-    let a = c .before .args in
-    (omega arith, no-lowers (now (a .policy)) (a .labels))
+loop-holds c = (omega arith, no-lowers (c .args .t2))
 
-read-pair-requires : tie.Need-read-pair-requires Inv-loop μ-loop
-read-pair-requires c κs = omega arith
+mul-lower-of : tie.Need-mul-lower-of Inv-loop μ-loop
+mul-lower-of c = search needs
 
-cast-lower : tie.Need-cast-lower Inv-loop μ-loop
-cast-lower c = search needs
+array-copy-out-lower-of : tie.Need-array-copy-out-lower-of Inv-loop μ-loop
+array-copy-out-lower-of c = search needs
+
+lower-of-requires : tie.Need-lower-of-requires Inv-loop μ-loop
+lower-of-requires c κs = search needs
 
 array-write-found : tie.Need-array-write-found Inv-loop μ-loop
 array-write-found c = search needs
@@ -39,14 +39,14 @@ loop-less c = search needs
 loop-again : tie.Need-loop-again Inv-loop μ-loop
 loop-again c =
     let l = c .before .before .before .loop in
-    let a = c .before .before .before .before .before .args in
-    let h : c .before .read-pair .result .lower < 256 = search needs in
-    (omega arith, rw (l .inv .1, c .before .read-pair .ensures) (lowers-more (now (a .policy)) (a .labels) (l .k) (rw (c .before .read-pair .ensures) at h)))
+    let over = c .before .before .before .before .args .t2 in
+    let low = c .lower-of .ensures in
+    (omega arith, rw (l .inv .1, low .0) (lowers-more over (l .k) (omega arith)))
 
 returns : tie.Need-returns Inv-loop μ-loop
 returns c =
     let l = c .before .loop in
-    let end : l .k ≡ c .before .before .before .args .pairs = omega arith in
+    let end : l .k ≡ c .before .before .args .pairs = omega arith in
     rw end at (l .inv .1)
 
 pub lowers-spec : {M : Type 1} → statement M
@@ -56,8 +56,9 @@ lowers-spec =
     Inv-loop
     μ-loop
     loop-holds
-    read-pair-requires
-    cast-lower
+    mul-lower-of
+    array-copy-out-lower-of
+    lower-of-requires
     array-write-found
     add-k
     loop-less

@@ -56,7 +56,7 @@ returns : tie.Need-returns Inv-loop μ-loop
 returns c =
     let a = c .before in
     let e : a .loop .i ≡ length (a .before .before .args .message .now) / 64 = omega arith in
-    cc
+    a .loop .inv .1 ∙ rw e
 
 pub absorb-spec : {M : Type 1} → statement M
 absorb-spec =

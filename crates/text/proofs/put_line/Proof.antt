@@ -1,6 +1,6 @@
 -- `text::put_line` meets its contract.
 use native.Mathlib.Omega.{arith}
-use Rattle.policy.specs.File.{countOf}
+use Rattle.policy_file.specs.File.{countOf}
 use Rattle.buffers.proofs.Writes.{put-next}
 use Rattle.text.proofs.Parts.{line-parts, line-length}
 use borrow.Author.Needs.{needs}

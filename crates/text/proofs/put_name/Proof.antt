@@ -3,7 +3,7 @@ use native.Mathlib.Omega.{arith}
 use lib.Seq.{length-take-le}
 use borrow.Author.Needs.{needs}
 use mathlib.Core.Path.{sym}
-use Rattle.policy.specs.File.{nameOf}
+use Rattle.policy_file.specs.File.{nameOf}
 use Rattle.format.proofs.Padding.{unpadded-short, unpadded-taken}
 use Rattle.text.proofs.put_name.Statement.{statement}
 use Rattle.text.proofs.put_name.Tie as tie

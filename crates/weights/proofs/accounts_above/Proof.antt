@@ -6,7 +6,7 @@ use borrow.Author.Needs.{needs}
 use denote.Ref.{now}
 use Rattle.lists.specs.Tables.{listed, filled}
 use Rattle.lists.proofs.Tables.{fill-more}
-use Rattle.order.specs.Table.{atOrBelow}
+use Rattle.order.specs.Table.{entryAt}
 use Rattle.weights.specs.Tables.{entries, accountsAbove, aboveTable}
 use Rattle.weights.proofs.Above.{small-as, small-more, small-filled}
 use Rattle.weights.proofs.accounts_above.Statement.{statement}
@@ -15,8 +15,8 @@ use Rattle.weights.proofs.accounts_above.Tie as tie
 abbrev Inv-loop : tie.InvT-loop
 Inv-loop labels counts rows m above₀ l₀ above l =
     (l ≤ labels)
-    × (above ≡ filled 64 0 (accountsAbove (entries counts) (atOrBelow rows) m) l)
-    × ((k : ℕ) → k < l → accountsAbove (entries counts) (atOrBelow rows) m k ≤ 65_535)
+    × (above ≡ filled 64 0 (accountsAbove (entries counts) (entryAt rows) m) l)
+    × ((k : ℕ) → k < l → accountsAbove (entries counts) (entryAt rows) m k ≤ 65_535)
 
 abbrev μ-loop : tie.MeasureT-loop
 μ-loop labels counts rows m above₀ l₀ above l = labels - l
@@ -44,7 +44,7 @@ loop-again : tie.Need-loop-again Inv-loop μ-loop
 loop-again c =
     let l = c .before .before .loop in
     let a = c .before .before .before .args in
-    let f = accountsAbove (entries (now (a .counts))) (atOrBelow (now (a .rows))) (a .m) in
+    let f = accountsAbove (entries (now (a .counts))) (entryAt (now (a .rows))) (a .m) in
     let e = c .account-above .ensures in
     (omega arith, rw (l .inv .1, e .0) (fill-more f 64 0 (l .l) (omega arith)), small-more f (l .l) (l .inv .2) (small-as (sym (e .0)) (e .1)))
 
@@ -53,7 +53,7 @@ unfolding aboveTable
 returns c =
     let l = c .before .loop in
     let a = c .before .before .args in
-    let f = accountsAbove (entries (now (a .counts))) (atOrBelow (now (a .rows))) (a .m) in
+    let f = accountsAbove (entries (now (a .counts))) (entryAt (now (a .rows))) (a .m) in
     let end : l .l ≡ a .labels = omega arith in
     let e : l .above ≡ filled 64 0 f (a .labels) = rw end at (l .inv .1) in
     (e, small-filled f (a .labels) (l .above) e (λ k h. l .inv .2 k (omega (arith, end))))

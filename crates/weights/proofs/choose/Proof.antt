@@ -6,7 +6,7 @@ use borrow.Author.Needs.{needs}
 use denote.Ref.{now}
 use Rattle.lists.specs.Tables.{listed, filled}
 use Rattle.lists.proofs.Tables.{fill-more}
-use Rattle.order.specs.Table.{atOrBelow}
+use Rattle.order.specs.Table.{entryAt}
 use Rattle.trees.specs.Weights.{plan}
 use Rattle.weights.specs.Choices.{choiceOf, chosenOf}
 use Rattle.weights.specs.Tables.{entries, parentTable, heldWeight, weightTable}
@@ -17,8 +17,8 @@ use Rattle.weights.proofs.choose.Tie as tie
 
 abbrev Inv-loop : tie.InvT-loop
 Inv-loop labels counts rows parents₀ weights₀ m₀ parents weights m =
-    let tree = plan labels (entries counts) (atOrBelow rows) in
-    (m ≤ labels) × (parents ≡ filled 64 0 tree m) × (weights ≡ filled 64 0 (heldWeight labels (entries counts) (atOrBelow rows) tree) m)
+    let tree = plan labels (entries counts) (entryAt rows) in
+    (m ≤ labels) × (parents ≡ filled 64 0 tree m) × (weights ≡ filled 64 0 (heldWeight labels (entries counts) (entryAt rows) tree) m)
 
 abbrev μ-loop : tie.MeasureT-loop
 μ-loop labels counts rows parents₀ weights₀ m₀ parents weights m = labels - m
@@ -59,7 +59,7 @@ loop-again c =
     let a = s .args in
     let n = a .labels in
     let count = entries (now (a .counts)) in
-    let le = atOrBelow (now (a .rows)) in
+    let le = entryAt (now (a .rows)) in
     let made = c .before .least-parent .ensures .0 ∙ choice-short count le (s .pre .1) (l .m) n (c .before .before .past .result) (omega arith) (c .before .before .past .ensures .0) in (
       omega arith,
       rw (l .inv .1, ap (λ (x : Choice). x .parent) made) (fill-more (plan n count le) 64 0 (l .m) (omega arith)),

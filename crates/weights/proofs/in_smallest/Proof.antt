@@ -1,7 +1,7 @@
 -- `weights::in_smallest` meets its contract.
 use borrow.Author.Needs.{needs}
 use denote.Ref.{now}
-use Rattle.order.specs.Table.{atOrBelow}
+use Rattle.order.specs.Table.{entryAt}
 use Rattle.weights.specs.Tables.{entries}
 use Rattle.weights.proofs.Turns.{inSmallest-held}
 use Rattle.weights.proofs.in_smallest.Statement.{statement}
@@ -34,7 +34,7 @@ index-2-result-2 c = search needs
 returns : tie.Need-returns
 returns c =
     let a = c .before .before .before .before .args in
-    inSmallest-held (atOrBelow (now (a .rows))) (entries (now (a .parents))) (a .l) (a .m) (c .before .before .wide .result) (c .before .before .wide .ensures .0)
+    inSmallest-held (entryAt (now (a .rows))) (entries (now (a .parents))) (a .l) (a .m) (c .before .before .wide .result) (c .before .before .wide .ensures .0)
 
 pub in-smallest-spec : {M : Type 1} → statement M
 in-smallest-spec =

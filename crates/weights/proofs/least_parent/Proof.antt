@@ -4,7 +4,7 @@ use mathlib.Core.Path.{_≡_, sym, _∙_}
 use native.Mathlib.Omega.{arith}
 use borrow.Author.Needs.{needs}
 use denote.Ref.{now}
-use Rattle.order.specs.Table.{atOrBelow}
+use Rattle.order.specs.Table.{entryAt}
 use Rattle.trees.specs.Weights.{weight, best}
 use Rattle.trees.proofs.Ties.{best-early}
 use Rattle.weights.specs.Tables.{entries}
@@ -16,7 +16,7 @@ use Rattle.weights.proofs.least_parent.Tie as tie
 
 abbrev Inv-loop : tie.InvT-loop
 Inv-loop labels counts rows m above b₀ w₀ p₀ b w p =
-    (p ≤ m) × (b ≡ best labels (entries counts) (atOrBelow rows) m p) × (w ≡ weight labels (entries counts) (atOrBelow rows) b m)
+    (p ≤ m) × (b ≡ best labels (entries counts) (entryAt rows) m p) × (w ≡ weight labels (entries counts) (entryAt rows) b m)
 
 abbrev μ-loop : tie.MeasureT-loop
 μ-loop labels counts rows m above b₀ w₀ p₀ b w p = m - p
@@ -30,7 +30,7 @@ accounts-requires c κs = search needs
 returns : tie.Need-returns Inv-loop μ-loop
 returns c =
     let a = c .before .before .before .args in
-    (choice-top (a .labels) (entries (now (a .counts))) (atOrBelow (now (a .rows))) (a .m) (c .before .before .if1 .taken) _ (c .accounts .ensures .0), omega arith)
+    (choice-top (a .labels) (entries (now (a .counts))) (entryAt (now (a .rows))) (a .m) (c .before .before .if1 .taken) _ (c .accounts .ensures .0), omega arith)
 
 accounts-above-requires : tie.Need-accounts-above-requires Inv-loop μ-loop
 accounts-above-requires c κs = search needs
@@ -42,7 +42,7 @@ loop-holds : tie.Need-loop-holds Inv-loop μ-loop
 loop-holds c =
     let t = c .before .before .accounts-above in
     let a = c .before .before .before .before .args in
-    (omega arith, best-one (a .labels) (entries (now (a .counts))) (atOrBelow (now (a .rows))) (a .m), c .weight .ensures ∙ weight-from (entries (now (a .counts))) (atOrBelow (now (a .rows))) 0 (a .m) (a .labels) (t .result) (t .ensures .0))
+    (omega arith, best-one (a .labels) (entries (now (a .counts))) (entryAt (now (a .rows))) (a .m), c .weight .ensures ∙ weight-from (entries (now (a .counts))) (entryAt (now (a .rows))) 0 (a .m) (a .labels) (t .result) (t .ensures .0))
 
 add-p : tie.Need-add-p Inv-loop μ-loop
 add-p c = search needs
@@ -72,9 +72,9 @@ loop-again c =
     let t = b .before .before .before .accounts-above in
     let a = b .before .before .before .before .before .args in
     let x = c .before .before .weight2 in
-    let same = x .ensures ∙ weight-from (entries (now (a .counts))) (atOrBelow (now (a .rows))) (l .p) (a .m) (a .labels) (t .result) (t .ensures .0) in (
+    let same = x .ensures ∙ weight-from (entries (now (a .counts))) (entryAt (now (a .rows))) (l .p) (a .m) (a .labels) (t .result) (t .ensures .0) in (
       omega arith,
-      best-taken (a .labels) (entries (now (a .counts))) (atOrBelow (now (a .rows))) (a .m) (l .p) (l .best) (l .inv .1) (x .result) (l .least)
+      best-taken (a .labels) (entries (now (a .counts))) (entryAt (now (a .rows))) (a .m) (l .p) (l .best) (l .inv .1) (x .result) (l .least)
           same (l .inv .2) (c .before .before .before .before .if2 .taken) (sym (c .before .takes .ensures) ∙ c .if3 .taken),
       same,
     )
@@ -89,9 +89,9 @@ loop-again-2 c =
     let t = b .before .before .before .accounts-above in
     let a = b .before .before .before .before .before .args in
     let x = c .before .before .weight2 in
-    let same = x .ensures ∙ weight-from (entries (now (a .counts))) (atOrBelow (now (a .rows))) (l .p) (a .m) (a .labels) (t .result) (t .ensures .0) in (
+    let same = x .ensures ∙ weight-from (entries (now (a .counts))) (entryAt (now (a .rows))) (l .p) (a .m) (a .labels) (t .result) (t .ensures .0) in (
       omega arith,
-      best-left (a .labels) (entries (now (a .counts))) (atOrBelow (now (a .rows))) (a .m) (l .p) (l .best) (l .inv .1) (x .result) (l .least)
+      best-left (a .labels) (entries (now (a .counts))) (entryAt (now (a .rows))) (a .m) (l .p) (l .best) (l .inv .1) (x .result) (l .least)
           same (l .inv .2) (c .before .before .before .before .if2 .taken) (sym (c .before .takes .ensures) ∙ c .if3 .left),
       l .inv .2,
     )
@@ -104,7 +104,7 @@ loop-again-3 c =
     let b = c .before .before .before in
     let l = b .loop in
     let a = b .before .before .before .before .before .args in
-    (omega arith, best-passed (a .labels) (entries (now (a .counts))) (atOrBelow (now (a .rows))) (a .m) (l .p) (l .best) (l .inv .1) (c .if2 .left), l .inv .2)
+    (omega arith, best-passed (a .labels) (entries (now (a .counts))) (entryAt (now (a .rows))) (a .m) (l .p) (l .best) (l .inv .1) (c .if2 .left), l .inv .2)
 
 returns-2 : tie.Need-returns-2 Inv-loop μ-loop
 returns-2 c =
@@ -112,7 +112,7 @@ returns-2 c =
     let a = c .before .before .before .before .before .before .args in
     let end : l .p ≡ a .m = omega arith in
     let count = entries (now (a .counts)) in
-    let le = atOrBelow (now (a .rows)) in
+    let le = entryAt (now (a .rows)) in
     let e : l .best ≡ best (a .labels) count le (a .m) (a .m) = rw end at (l .inv .1) in
     (choice-under (a .labels) count le (a .m) (c .before .before .before .before .before .if1 .left) (l .best) (l .least) e (l .inv .2), omega (arith, best-early (a .labels) count le (a .m) (a .m)))
 

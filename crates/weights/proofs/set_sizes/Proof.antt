@@ -4,20 +4,20 @@ use mathlib.Core.Path.{_≡_}
 use native.Mathlib.Omega.{arith}
 use borrow.Author.Needs.{needs}
 use denote.Ref.{now}
-use Rattle.order.specs.Table.{atOrBelow}
+use Rattle.order.specs.Table.{entryAt}
 use Rattle.weights.specs.Tables.{entries, sizesBelow, sizeTable}
 use Rattle.weights.proofs.Sizes.{sizes-none}
 use Rattle.weights.proofs.set_sizes.Statement.{statement}
 use Rattle.weights.proofs.set_sizes.Tie as tie
 
 abbrev Inv-loop : tie.InvT-loop
-Inv-loop labels rows parents sizes₀ m₀ sizes m = (m ≤ labels) × (sizes ≡ sizesBelow labels (atOrBelow rows) (entries parents) m)
+Inv-loop labels rows parents sizes₀ m₀ sizes m = (m ≤ labels) × (sizes ≡ sizesBelow labels (entryAt rows) (entries parents) m)
 
 abbrev μ-loop : tie.MeasureT-loop
 μ-loop labels rows parents sizes₀ m₀ sizes m = labels - m
 
 loop-holds : tie.Need-loop-holds Inv-loop μ-loop
-loop-holds c = let a = c .args in (omega arith, sizes-none (atOrBelow (now (a .rows))) (entries (now (a .parents))) (a .labels) (omega arith))
+loop-holds c = let a = c .args in (omega arith, sizes-none (entryAt (now (a .rows))) (entries (now (a .parents))) (a .labels) (omega arith))
 
 with-label-requires : tie.Need-with-label-requires Inv-loop μ-loop
 with-label-requires c κs = (omega arith, omega arith, c .before .before .pre .1, c .before .loop .inv .1)

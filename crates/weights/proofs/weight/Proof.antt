@@ -5,7 +5,7 @@ use mathlib.Core.Path.{_≡_, refl}
 use native.Mathlib.Omega.{arith}
 use borrow.Author.Needs.{needs}
 use denote.Ref.{now}
-use Rattle.order.specs.Table.{atOrBelow}
+use Rattle.order.specs.Table.{entryAt}
 use Rattle.trees.specs.Sums.{sumWhere}
 use Rattle.weights.specs.Tables.{entries, weightFrom}
 use Rattle.weights.proofs.Turns.{where-turn}
@@ -13,7 +13,7 @@ use Rattle.weights.proofs.weight.Statement.{statement}
 use Rattle.weights.proofs.weight.Tie as tie
 
 abbrev Inv-loop : tie.InvT-loop
-Inv-loop labels above rows p sum₀ l₀ sum l = (l ≤ labels) × (sum ≤ 65_535 * l) × (sum ≡ weightFrom l (entries above) (atOrBelow rows) p)
+Inv-loop labels above rows p sum₀ l₀ sum l = (l ≤ labels) × (sum ≤ 65_535 * l) × (sum ≡ weightFrom l (entries above) (entryAt rows) p)
 
 abbrev μ-loop : tie.MeasureT-loop
 μ-loop labels above rows p sum₀ l₀ sum l = labels - l
@@ -55,7 +55,7 @@ loop-again c =
     let l = c .before .before .before .before .loop in
     let s = c .before .before .before .before .before in
     let a = s .args in
-    let le = atOrBelow (now (a .rows)) in (
+    let le = entryAt (now (a .rows)) in (
       omega arith,
       omega (arith, s .pre .2 (l .l)),
       where-turn (λ k. not (le (a .p) k)) (entries (now (a .above))) (l .l) (l .sum) (c .outside .result) (l .inv .2) (c .outside .ensures .0),

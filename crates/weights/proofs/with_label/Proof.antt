@@ -6,14 +6,14 @@ use borrow.Author.Needs.{needs}
 use denote.Ref.{now}
 use Rattle.lists.specs.Tables.{listed, filled}
 use Rattle.lists.proofs.Tables.{fill-more}
-use Rattle.order.specs.Table.{atOrBelow}
+use Rattle.order.specs.Table.{entryAt}
 use Rattle.weights.specs.Tables.{entries, setSize, sizesBelow}
 use Rattle.weights.proofs.Sizes.{sizes-small, sizes-turn}
 use Rattle.weights.proofs.with_label.Statement.{statement}
 use Rattle.weights.proofs.with_label.Tie as tie
 
 abbrev Inv-loop : tie.InvT-loop
-Inv-loop labels rows parents m sizes next₀ l₀ next l = (l ≤ labels) × (next ≡ filled 64 0 (setSize (m + 1) (atOrBelow rows) (entries parents)) l)
+Inv-loop labels rows parents m sizes next₀ l₀ next l = (l ≤ labels) × (next ≡ filled 64 0 (setSize (m + 1) (entryAt rows) (entries parents)) l)
 
 abbrev μ-loop : tie.MeasureT-loop
 μ-loop labels rows parents m sizes next₀ l₀ next l = labels - l
@@ -34,7 +34,7 @@ counted-requires : tie.Need-counted-requires Inv-loop μ-loop
 counted-requires c κs =
     let s = c .before .before .before in
     let a = s .args in
-    sizes-small (atOrBelow (now (a .rows))) (entries (now (a .parents))) (a .m) (c .before .before .loop .l) (a .labels) (a .t5) (s .pre .3) (omega arith) (omega arith)
+    sizes-small (entryAt (now (a .rows))) (entries (now (a .parents))) (a .m) (c .before .before .loop .l) (a .labels) (a .t5) (s .pre .3) (omega arith) (omega arith)
 
 array-write-next : tie.Need-array-write-next Inv-loop μ-loop
 array-write-next c = search needs
@@ -50,7 +50,7 @@ loop-again c =
     let l = c .before .before .before .loop in
     let s = c .before .before .before .before in
     let a = s .args in
-    let le = atOrBelow (now (a .rows)) in
+    let le = entryAt (now (a .rows)) in
     let parent = entries (now (a .parents)) in
     let held = c .before .in-smallest in
     let turn = c .counted .ensures ∙ sizes-turn le parent (a .m) (l .l) (a .labels) (a .t5) (s .pre .3) (omega arith) (held .result) (held .ensures) in

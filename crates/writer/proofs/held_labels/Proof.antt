@@ -6,15 +6,15 @@ use native.Mathlib.Omega.{arith}
 use borrow.Author.Needs.{needs}
 use denote.Ref.{now}
 use Rattle.lists.specs.Tables.{listed, filled}
-use Rattle.order.specs.Table.{atOrBelow}
+use Rattle.order.specs.Table.{entryAt}
 use Rattle.trees.specs.Weights.{inSmallest}
 use Rattle.weights.specs.Tables.{entries}
-use Rattle.writer.proofs.Marks.{mark-filled}
+use Rattle.writer.proofs.Recorded.{mark-filled}
 use Rattle.writer.proofs.held_labels.Statement.{statement}
 use Rattle.writer.proofs.held_labels.Tie as tie
 
 abbrev Inv-loop : tie.InvT-loop
-Inv-loop labels rows parents l held₀ m₀ held m = (m ≤ labels) × (held ≡ filled 64 false (inSmallest (atOrBelow rows) (entries parents) l) m)
+Inv-loop labels rows parents l held₀ m₀ held m = (m ≤ labels) × (held ≡ filled 64 false (inSmallest (entryAt rows) (entries parents) l) m)
 
 abbrev μ-loop : tie.MeasureT-loop
 μ-loop labels rows parents l held₀ m₀ held m = labels - m
@@ -23,7 +23,7 @@ loop-again : tie.Need-loop-again Inv-loop μ-loop
 loop-again c =
     let p = c .before .before .loop in
     let a = c .before .before .before .args in
-    let held = inSmallest (atOrBelow (now (a .rows))) (entries (now (a .parents))) (a .l) in
+    let held = inSmallest (entryAt (now (a .rows))) (entries (now (a .parents))) (a .l) in
     (omega arith, mark-filled held (p .held) (p .m) (c .in-smallest .result) (p .inv .1) (c .in-smallest .ensures) (omega arith))
 
 loop-holds : tie.Need-loop-holds Inv-loop μ-loop

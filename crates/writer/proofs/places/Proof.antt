@@ -7,7 +7,7 @@ use borrow.Author.Needs.{needs}
 use denote.Ref.{now}
 use Rattle.lists.specs.Tables.{listed, filled}
 use Rattle.lists.proofs.Tables.{fill-more}
-use Rattle.order.specs.Table.{atOrBelow}
+use Rattle.order.specs.Table.{entryAt}
 use Rattle.envelopes.specs.Envelope.{placeBelow}
 use Rattle.envelopes.proofs.Places.{place-upto}
 use Rattle.writer.proofs.Recorded.{place-more, place-same}
@@ -16,7 +16,7 @@ use Rattle.writer.proofs.places.Tie as tie
 
 abbrev Inv-loop : tie.InvT-loop
 Inv-loop labels rows l places₀ before₀ i₀ places before i =
-    (i ≤ labels) × (before ≡ placeBelow (atOrBelow rows) l i) × (places ≡ filled 64 0 (placeBelow (atOrBelow rows) l) i)
+    (i ≤ labels) × (before ≡ placeBelow (entryAt rows) l i) × (places ≡ filled 64 0 (placeBelow (entryAt rows) l) i)
 
 abbrev μ-loop : tie.MeasureT-loop
 μ-loop labels rows l places₀ before₀ i₀ places before i = labels - i
@@ -41,7 +41,7 @@ add-before : tie.Need-add-before Inv-loop μ-loop
 add-before c =
     let p = c .before .before .before in
     let a = p .before .args in
-    omega (arith, place-upto (atOrBelow (now (a .rows))) (a .l) (p .loop .i))
+    omega (arith, place-upto (entryAt (now (a .rows))) (a .l) (p .loop .i))
 
 add-i : tie.Need-add-i Inv-loop μ-loop
 add-i c = search needs
@@ -54,7 +54,7 @@ loop-again c =
     let p = c .before .before .before in
     let i = p .loop .inv in
     let a = p .before .args in
-    let le = atOrBelow (now (a .rows)) in
+    let le = entryAt (now (a .rows)) in
     let next = ⊎-elim (λ w. w .1 ∙ place-more le (a .l) (p .loop .i) (p .loop .before) (i .1) (w .0 .taken))
     (λ w. w .1 ∙ place-same le (a .l) (p .loop .i) (p .loop .before) (i .1) (w .0 .left)) (c .if1 .came) in
     (omega arith, next, rw (i .2, i .1) (fill-more (placeBelow le (a .l)) 64 0 (p .loop .i) (omega arith)))

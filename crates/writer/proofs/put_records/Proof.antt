@@ -1,28 +1,29 @@
 -- `writer::put_records` meets its contract. Invariant: whatever root the secrets are made from, the records of the labels before `next` are written.
 use Prim.Native.Nat.{ℕ, _-_, _≤_}
-use mathlib.Core.Bool.{cond}
 use mathlib.Core.List.{List}
 use mathlib.Core.Path.{_≡_, refl, ap}
 use native.Mathlib.Omega.{arith}
 use lib.ListN.{length}
 use borrow.Author.Needs.{needs}
 use Rattle.buffers.specs.Put.{Put}
-use Rattle.buffers.proofs.Writes.{put-next}
-use Rattle.order.specs.Table.{atOrBelow}
-use Rattle.policy.specs.File.{nameOf}
+use Rattle.buffers.proofs.Writes.{put-nothing, put-next}
+use Rattle.order.specs.Table.{entryAt}
+use Rattle.policy_file.specs.File.{nameOf}
 use Rattle.weights.specs.Tables.{entries}
-use Rattle.envelopes.specs.Envelope.{heldRecord, underRecord, recordsBelow}
-use Rattle.writer.specs.Asks.{isMarked, secretAt, Made}
-use Rattle.writer.proofs.Hanging.{hung-row}
-use Rattle.writer.proofs.Parts.{put-as, put-empty}
+use Rattle.envelopes.specs.Envelope.{recordsBelow}
+use Rattle.record_writer.specs.Either.{labelRecord}
+use Rattle.secrets.specs.Asks.{isMarked, secretAt, Made}
+use Rattle.secrets.proofs.Hanging.{hung-row}
+use Rattle.record_writer.proofs.Parts.{put-as}
+use Rattle.writer.specs.Tabled.{tableRecords}
 use Rattle.writer.proofs.Recorded.{records-more, records-same, records-fit, table-record}
 use Rattle.writer.proofs.put_records.Statement.{statement}
 use Rattle.writer.proofs.put_records.Tie as tie
 
 abbrev Inv-loop : tie.InvT-loop
 Inv-loop policy labels rows parents l out₀ at below held secrets end₀ next₀ out end next =
-    ((root : List ℕ) → Made (nameOf policy) parents root held secrets labels
-    → Put out₀ out at (recordsBelow (nameOf policy) (atOrBelow rows) (entries parents) root l next) end)
+    ((root : List ℕ) → Made policy parents root held secrets labels
+    → Put out₀ out at (tableRecords policy rows parents root l next) end)
     × (next ≤ labels) × (length out ≡ length out₀)
 
 abbrev μ-loop : tie.MeasureT-loop
@@ -39,11 +40,11 @@ loop-again c =
     let s = p .before .before .before in
     let a = s .args in
     let name = nameOf (a .policy .now) in
-    let le = atOrBelow (a .rows .now) in
+    let le = entryAt (a .rows .now) in
     let parent = entries (a .parents .now) in
     let secret = secretAt (d .make-secrets .result) (l .next) in
     let place = entries (p .places .result) (parent (l .next)) in
-    let one = cond (isMarked (h .held-labels .result) (l .next)) (heldRecord (name (l .next)) secret) (underRecord (name (l .next)) place) in
+    let one = labelRecord (isMarked (h .held-labels .result) (l .next)) (name (l .next)) secret place in
     let written : Put (l .out) (r .put-record .last .1 .1 .1 .1 .1 .0) (l .end) one (r .put-record .result) = r .put-record .ensures in (
       λ root made.
           let is = table-record le (a .l) (h .held-labels .ensures) made (p .places .ensures) (s .pre .0 .falls) (l .next) (omega arith) (i .if1 .taken) in
@@ -57,7 +58,7 @@ loop-again-2 c =
     let l = c .before .before .before .loop in
     let a = c .before .before .before .before .before .before .before .before .before .args in (
       λ root made.
-          let same = records-same (nameOf (a .policy .now)) (atOrBelow (a .rows .now)) (entries (a .parents .now)) root (a .l) (l .next) (c .if1 .left) in
+          let same = records-same (nameOf (a .policy .now)) (entryAt (a .rows .now)) (entries (a .parents .now)) root (a .l) (l .next) (c .if1 .left) in
           put-as same (l .inv .0 root made),
       omega arith,
       l .inv .2,
@@ -80,9 +81,9 @@ put-record-requires c κs =
     let p = h .before in
     let s = p .before .before .before in
     let a = s .args in
-    let is = table-record (atOrBelow (a .rows .now)) (a .l) (h .held-labels .ensures) (d .make-secrets .ensures) (p .places .ensures) (s .pre .0 .falls) (l .next) (omega arith) (i .if1 .taken) in
+    let is = table-record (entryAt (a .rows .now)) (a .l) (h .held-labels .ensures) (d .make-secrets .ensures) (p .places .ensures) (s .pre .0 .falls) (l .next) (omega arith) (i .if1 .taken) in
     let fit =
-    records-fit (nameOf (a .policy .now)) (atOrBelow (a .rows .now)) (entries (a .parents .now)) (a .root) (a .l) (l .next) (a .labels) (omega arith) (i .if1 .taken) in (
+    records-fit (nameOf (a .policy .now)) (entryAt (a .rows .now)) (entries (a .parents .now)) (a .root) (a .l) (l .next) (a .labels) (omega arith) (i .if1 .taken) in (
       omega (arith, s .pre .0 .few),
       omega (arith, s .pre .0 .within),
       omega (arith, ap length is, fit, s .pre .2, l .inv .2, l .inv .0 (a .root) (d .make-secrets .ensures) .behind),
@@ -101,7 +102,7 @@ loop-holds : tie.Need-loop-holds Inv-loop μ-loop
 unfolding recordsBelow
 loop-holds c =
     let s = c .before .before .before .before .before in
-    (λ root made. put-empty (s .args .out .now) (s .args .at) (omega (arith, s .pre .2)), omega arith, refl)
+    (λ root made. put-nothing (s .args .out .now) (s .args .at) (omega (arith, s .pre .2)), omega arith, refl)
 
 add-next : tie.Need-add-next Inv-loop μ-loop
 add-next c = search needs

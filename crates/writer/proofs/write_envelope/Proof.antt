@@ -4,11 +4,12 @@ use native.Mathlib.Omega.{arith}
 use lib.ListN.{length, length-append}
 use borrow.Author.Needs.{needs}
 use Rattle.buffers.proofs.Writes.{put-next}
-use Rattle.order.specs.Table.{atOrBelow}
-use Rattle.policy.specs.File.{nameOf}
+use Rattle.order.specs.Table.{entryAt}
+use Rattle.policy_file.specs.File.{nameOf}
 use Rattle.weights.specs.Tables.{entries}
 use Rattle.envelopes.specs.Envelope.{header, recordsBelow}
-use Rattle.writer.proofs.Parts.{put-as}
+use Rattle.record_writer.proofs.Parts.{put-as}
+use Rattle.writer.specs.Tabled.{tableRecords}
 use Rattle.writer.proofs.Recorded.{envelope-parts}
 use Rattle.writer.proofs.write_envelope.Statement.{statement}
 use Rattle.writer.proofs.write_envelope.Tie as tie
@@ -21,9 +22,10 @@ returns c =
     let n = h .before .before in
     let a = n .before .before .before .args in
     let parts =
-    envelope-parts (nameOf (a .policy .now)) (atOrBelow (a .rows .now)) (entries (a .parents .now)) (a .root) (a .l) (a .labels) (a .account)
+    envelope-parts (nameOf (a .policy .now)) (entryAt (a .rows .now)) (entries (a .parents .now)) (a .root) (a .l) (a .labels) (a .account)
     (n .read-name .result) (n .read-name .ensures) in
-    put-as parts (put-next (h .put-header .ensures) (r .put-records .ensures))
+    let records = tableRecords (a .policy .now) (a .rows .now) (a .parents .now) (a .root) (a .l) (a .labels) in
+    put-as parts (put-next {t = records} (h .put-header .ensures) (r .put-records .ensures))
 
 mul-read-name : tie.Need-mul-read-name
 mul-read-name c = search needs
@@ -41,7 +43,7 @@ put-header-requires c κs =
     let s = n .before .before .before in
     let a = s .args in
     let name = nameOf (a .policy .now) in
-    let le = atOrBelow (a .rows .now) in
+    let le = entryAt (a .rows .now) in
     let parent = entries (a .parents .now) in
     let own = n .read-name .result in
     let parts = envelope-parts name le parent (a .root) (a .l) (a .labels) (a .account) own (n .read-name .ensures) in
@@ -55,7 +57,7 @@ put-records-requires c κs =
     let s = n .before .before .before in
     let a = s .args in
     let name = nameOf (a .policy .now) in
-    let le = atOrBelow (a .rows .now) in
+    let le = entryAt (a .rows .now) in
     let parent = entries (a .parents .now) in
     let own = n .read-name .result in
     let parts = envelope-parts name le parent (a .root) (a .l) (a .labels) (a .account) own (n .read-name .ensures) in

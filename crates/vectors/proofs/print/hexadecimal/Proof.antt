@@ -1,3 +1,4 @@
+-- `vectors::print::hexadecimal` is safe and ends.
 use Prim.Native.Nat.{_≤_, _-_}
 use lib.ListN.{length}
 use borrow.Author.Needs.{needs}

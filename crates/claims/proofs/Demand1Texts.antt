@@ -1,0 +1,30 @@
+-- Demand 1 for the plan's text and its drawing, shown for every list of bytes and every buffer; once, for any bytes that are made of a policy.
+use mathlib.Core.List.{List}
+use mathlib.Core.Path.{ap}
+use Prim.Native.Nat.{ℕ}
+use lib.ListN.{length}
+use Rattle.buffers.proofs.Handed.{unless-refused}
+use Rattle.buffers.proofs.Unless.{unless-given, unless-filled, unless-sixteen, unless-zeros, unless-unchanged}
+use Rattle.buffers.specs.Handed.{writtenUnless, bufferUnless}
+use Rattle.buffers.specs.declared.Written.{Written}
+use Rattle.dot.specs.Answer.{drawingWritten, drawingAfter}
+use Rattle.dot.specs.Drawing.{dotText}
+use Rattle.policy_file.specs.Whole.{policyRefusal}
+use Rattle.text.specs.Answer.{textWritten, textAfter}
+use Rattle.text.specs.Listing.{planText}
+use Rattle.claims.specs.Demand1Texts.{OfWritten, Demand1OfTexts}
+
+of-written : (policy bytes out : List ℕ)
+    → OfWritten policy bytes (writtenUnless (policyRefusal policy) bytes (length out)) out (bufferUnless (policyRefusal policy) bytes out)
+of-written policy bytes out = record {
+  policy-first = λ h. ap (λ (w : Written). w .refusal) (unless-refused bytes (length out) h);
+  short = λ ok. unless-sixteen (policyRefusal policy) ok bytes (length out);
+  given = λ ok. unless-given (policyRefusal policy) ok bytes (length out);
+  left = λ ok. unless-filled (policyRefusal policy) ok bytes out;
+  zeros = unless-zeros (policyRefusal policy) bytes (length out);
+  unchanged = unless-unchanged (policyRefusal policy) bytes out;
+}
+
+pub demand1-of-texts : (policy out : List ℕ) → Demand1OfTexts policy out
+unfolding textWritten textAfter drawingWritten drawingAfter
+demand1-of-texts policy out = record { text = of-written policy (planText policy) out; drawing = of-written policy (dotText policy) out }

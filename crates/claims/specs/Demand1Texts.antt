@@ -1,0 +1,31 @@
+-- Demand 1 for the plan's text and its drawing, which are written into a lent buffer: "A refused one yields zeros beside that number and changes
+-- nothing in the memory lent with it."
+use Prim.Native.Nat.{ℕ, _≤_, _<_}
+use mathlib.Core.List.{List, _++_}
+use mathlib.Core.Logic.{_↔_}
+use mathlib.Core.Path.{_≡_}
+use lib.ListN.{length, drop}
+use Rattle.buffers.specs.Handed.{wrote, refusedWritten}
+use Rattle.buffers.specs.declared.Written.{Written}
+use Rattle.dot.specs.Answer.{drawingWritten, drawingAfter}
+use Rattle.dot.specs.Drawing.{dotText}
+use Rattle.policy_file.specs.Whole.{policyRefusal, AcceptedPolicy}
+use Rattle.text.specs.Answer.{textWritten, textAfter}
+use Rattle.text.specs.Listing.{planText}
+
+-- bytes made of a policy are asked for with the buffer `out`: what is answered, and what the buffer holds after the call
+pub record OfWritten (policy bytes : List ℕ) (answer : Written) (out after : List ℕ) : Type 0 where
+  -- 01: "A refusal of the policy comes before any other in an operation that takes one, .. and only then those about .. buffers"
+  pub policy-first : 0 < policyRefusal policy → answer .refusal ≡ policyRefusal policy
+  -- 16 for a buffer that is shorter than the bytes; with room they are written from its start, and no byte behind them changes
+  pub short : AcceptedPolicy policy → (answer .refusal ≡ 16) ↔ (length out < length bytes)
+  pub given : AcceptedPolicy policy → length bytes ≤ length out → answer ≡ wrote (length bytes)
+  pub left : AcceptedPolicy policy → length bytes ≤ length out → after ≡ bytes ++ drop (length bytes) out
+  -- "A refused one yields zeros beside that number and changes nothing in the memory lent with it."
+  pub zeros : 0 < answer .refusal → answer ≡ refusedWritten (answer .refusal)
+  pub unchanged : 0 < answer .refusal → after ≡ out
+
+-- `plan_text` and `plan_dot`
+pub record Demand1OfTexts (policy out : List ℕ) : Type 0 where
+  pub text : OfWritten policy (planText policy) (textWritten policy (length out)) out (textAfter policy out)
+  pub drawing : OfWritten policy (dotText policy) (drawingWritten policy (length out)) out (drawingAfter policy out)

@@ -1,0 +1,53 @@
+-- `plan_dot::put_drawing` meets its contract: for an accepted policy and for a refused one.
+use native.Mathlib.Omega.{arith}
+use borrow.Author.Needs.{needs}
+use Rattle.buffers.proofs.Writes.{put-length}
+use Rattle.files.proofs.Counting.{counted}
+use Rattle.policy_file.specs.Whole.{policyRefusal}
+use Rattle.text.proofs.Printing.{print-accepted, print-refused}
+use Rattle.dot.proofs.Lengths.{dot-suffices}
+use Rattle.dot.specs.Answer.{drawingWritten, drawingAfter, printedDrawing}
+use Rattle.dot.specs.Drawing.{dotText}
+use Rattle.plan_dot.proofs.put_drawing.Statement.{statement}
+use Rattle.plan_dot.proofs.put_drawing.Tie as tie
+
+plan-dot-requires : tie.Need-plan-dot-requires
+plan-dot-requires c κs = search needs
+
+same-length : tie.Need-same-length
+same-length c = search needs
+
+returns : tie.Need-returns
+unfolding drawingWritten drawingAfter printedDrawing
+returns c =
+    let t = c .before .before .before .before in
+    let s = t .before .before .before .before in
+    let file = s .args .policy .now in
+    let out = s .args .out .now in
+    let put = print-accepted (policyRefusal file) (dotText file) out (omega (arith, dot-suffices file)) (t .plan-dot .ensures .0) (t .plan-dot .ensures .1) (c .if1 .taken) in
+    (put, counted _ _ (omega (arith, put .fits, put .behind, put-length put)))
+
+refused-text-requires : tie.Need-refused-text-requires
+refused-text-requires c κs = search needs
+
+same-length-2 : tie.Need-same-length-2
+same-length-2 c = search needs
+
+returns-2 : tie.Need-returns-2
+unfolding drawingWritten drawingAfter printedDrawing
+returns-2 c =
+    let r = c .before .before in
+    let i = r .before .before in
+    let t = i .before .before .before .before in
+    let s = t .before .before .before .before in
+    let file = s .args .policy .now in
+    let out = s .args .out .now in
+    let e = r .refused-text .ensures in
+    let put = print-refused (policyRefusal file) (dotText file) out (omega (arith, dot-suffices file)) (t .plan-dot .ensures .0) (t .plan-dot .ensures .1)
+    (i .if1 .left) (omega arith) (e .0) (e .1) in
+    (put, counted _ _ (omega (arith, put .fits, put .behind, put-length put)))
+
+pub put-drawing-spec : {M : Type 1} → statement M
+put-drawing-spec =
+    tie.close
+    (tie.spec plan-dot-requires same-length returns refused-text-requires same-length-2 returns-2)

@@ -1,25 +1,26 @@
 /*
  * The issuer's side of Yendlowa: policies read, planned and weighed, the issuer's keys, and envelopes written. Link with
- * libyendlowa-issuer.a. The archive is for x86-64 Linux.
+ * -lyendlowa-issuer. The libraries are for x86-64 Linux.
  *
  * No function allocates, keeps anything between calls or does input or output, so any number of threads may call them at
- * once. Every function may be called with any bytes. A byte array is passed as a pointer to it and its length; the pointer may
- * be null when the length is 0, and only then. Answers are returned by value and have no padding: each byte of an answer belongs
- * to a field, and the call fixes it. The bytes passed are not changed. 64 kB of stack suffice for any call. Secrets pass over that
- * stack and are not wiped from it.
+ * once. Every function may be called with any bytes. A byte array is passed as a pointer and a length; the pointer may
+ * be null when the length is 0, and only then. The bytes passed are not changed. Answers are returned by value and have no padding:
+ * each byte of an answer belongs to a field, and what is passed determines it. 64 kB of stack suffice for any call. Secrets pass over
+ * that stack and are not wiped from it.
  *
- * Three functions write into a buffer that the caller lends (`out`): all that is to be written, from the buffer's start on,
- * or, with a refusal, nothing at all. A buffer that is too short, or null with length 0, is refused under 16, after all that
- * can be refused of the policy and the rest; no byte behind what is written, and none behind the buffer, is touched. A lent
- * buffer must not overlap the other arrays passed in that call.
+ * Some functions write into a buffer that the caller lends (`out`): all that is to be written, from the buffer's start on, or, with
+ * a refusal, nothing at all. A buffer that is too short, or null with length 0, is refused with 16, after everything that
+ * can be refused in the policy and the other arguments. No byte after what is written is touched. A lent buffer must not overlap
+ * the other arrays passed in that call.
  *
- * A policy file has at most 64 labels and 512 pairs: LB, name (8 bytes), accounts (2 bytes, most significant first) for each
- * label, then OV, upper label's number, lower label's number (1 byte each) for each pair. Labels are numbered from 0 in file
- * order, and an upper label has the smaller number.
+ * A policy file has at most 64 labels and 512 pairs: for each label LB, its name (8 bytes) and its accounts (2 bytes, most significant
+ * first), then for each pair OV, the upper label's number and the lower label's number (1 byte each). Labels are numbered from 0 in
+ * file order, and an upper label has the smaller number.
  *
  *     yendlowa_written w = yendlowa_issue(policy, policy_length, (const uint8_t *)"CONV32  ", YENDLOWA_NAME, 5,
- *                                         root, YENDLOWA_KEY, envelope, sizeof envelope);
+ *                                         root, root_length, envelope, sizeof envelope);
  *     if (w.refusal == YENDLOWA_ACCEPTED) fwrite(envelope, 1, w.length, file);
+ *     else fprintf(stderr, "no envelope: %s\n", yendlowa_refusal_text(w.refusal).text);
  */
 #ifndef YENDLOWA_ISSUER_H
 #define YENDLOWA_ISSUER_H
@@ -33,16 +34,17 @@
 extern "C" {
 #endif
 
-#define YENDLOWA_PAIRS 512         /* the most over-pairs of a policy */
+#define YENDLOWA_PAIRS 512         /* the most over-pairs that a policy can have */
 #define YENDLOWA_TEXT_ROOM 4096    /* no plan's text has more bytes */
 #define YENDLOWA_DRAWING_ROOM 8192 /* no plan's drawing has more bytes */
 
-/* What a function that writes into a lent buffer answers. */
-typedef struct yendlowa_written {
-    uint8_t refusal;
-    uint8_t zeros[7]; /* always 0 */
-    size_t length;    /* how many bytes were written, from the buffer's start on */
-} yendlowa_written;
+/*
+ * How much of a file decides: more bytes than this do not change an answer, so it is enough to read this many from a file.
+ * YENDLOWA_ENVELOPE_ROOM, in yendlowa_refusals.h, is the same for envelopes, and has room for every envelope that is issued.
+ */
+#define YENDLOWA_POLICY_ROOM 2828
+#define YENDLOWA_TREE_ROOM 67
+#define YENDLOWA_ROOT_ROOM 33
 
 /* ---- policies ---- */
 
@@ -57,8 +59,8 @@ typedef struct yendlowa_policy {
     uint8_t zeros[7];                   /* always 0 */
     size_t labels;                      /* 1 to 64 */
     size_t pairs;                       /* 0 to 512 */
-    uint16_t counts[YENDLOWA_LABELS];   /* each label's accounts; zeros behind the last */
-    yendlowa_pair over[YENDLOWA_PAIRS]; /* in file order; zeros behind the last */
+    uint16_t counts[YENDLOWA_LABELS];   /* each label's accounts; zeros after the last */
+    yendlowa_pair over[YENDLOWA_PAIRS]; /* in file order; zeros after the last */
 } yendlowa_policy;
 
 /*
@@ -66,32 +68,32 @@ typedef struct yendlowa_policy {
  *
  * Takes    a policy file.
  * Gives    its labels' accounts and its pairs.
- * Refuses  1; then at each record from the first on 2, 3, 4, 5, 6, 7 for LB, 2, 3, 5, 8, 9 for OV; at the end 10.
+ * Refuses  1; then, record by record, 2, 3, 4, 5, 6 and 7 for LB, 2, 3, 5, 8 and 9 for OV; at the end 10.
  */
 yendlowa_policy yendlowa_read_policy(const uint8_t *policy, size_t policy_length);
 
 /*
- * Where the reading of a policy file stops: how many of its records pass before its end or its first refused record. It
- * answers for every file, a refused one too, and says nothing of why; that is the refusal of `yendlowa_read_policy`.
+ * Where the reading of a policy file stops: how many records pass before its end or its first refused record. It answers
+ * for every file, refused or not; `yendlowa_read_policy` says why one is refused.
  *
  * Takes    any bytes, as a policy file.
- * Gives    the number: for a file refused under 2 to 9 the number of the refused record, counted from 0; for one refused under
- *          1 or 10, or accepted, that of all its records, which is 0 under 1. Never more than 576.
+ * Gives    for a file refused with 2 to 9 the number of the refused record, counted from 0; for an accepted file, or one refused
+ *          with 1 or 10, the number of all its records (with 1 there are none). Never more than 576.
  * Refuses  nothing.
  */
 size_t yendlowa_policy_records(const uint8_t *policy, size_t policy_length);
 
 typedef struct yendlowa_rows {
     uint8_t refusal;
-    bool rows[YENDLOWA_LABELS][YENDLOWA_LABELS]; /* rows[m][l]: label m is at or below label l; no past the last label */
+    bool rows[YENDLOWA_LABELS][YENDLOWA_LABELS]; /* rows[m][l]: label m is at or below label l; false past the last */
 } yendlowa_rows;
 
 /*
- * The order of a policy's labels: m is at or below l when they are the same or a chain of pairs leads from l down to m.
+ * The order of a policy's labels: m is at or below l if they are the same or a chain of pairs leads from l down to m.
  *
  * Takes    a policy file.
  * Gives    the table of all pairs of labels.
- * Refuses  as `yendlowa_read_policy`.
+ * Refuses  as `yendlowa_read_policy` does.
  */
 yendlowa_rows yendlowa_order(const uint8_t *policy, size_t policy_length);
 
@@ -100,20 +102,20 @@ yendlowa_rows yendlowa_order(const uint8_t *policy, size_t policy_length);
 typedef struct yendlowa_planned {
     uint8_t refusal;
     uint8_t zeros[3];                  /* always 0 */
-    uint32_t total;                    /* the keys that are issued to all accounts; no tree of the policy needs fewer */
+    uint32_t total;                    /* the keys issued to all accounts; no tree of the policy needs fewer */
     size_t labels;                     /* 1 to 64 */
-    uint8_t parents[YENDLOWA_LABELS];  /* each label's parent, the top's 0; zeros behind the last label, here and below */
-    uint32_t weights[YENDLOWA_LABELS]; /* the parent's weight for the label; for the top its accounts */
+    uint8_t parents[YENDLOWA_LABELS];  /* each label's parent, 0 for the top; zeros after the last label, here and below */
+    uint32_t weights[YENDLOWA_LABELS]; /* the keys that the label costs under its parent; for the top, its accounts */
     uint8_t sizes[YENDLOWA_LABELS];    /* how many keys an account at the label holds */
 } yendlowa_planned;
 
 /*
- * The plan of a policy: the derivation tree that issues the fewest keys. "TR" and the first `labels` bytes of `parents` are a
- * tree file that `yendlowa_weigh` takes.
+ * The plan of a policy: a derivation tree that needs the fewest keys. "TR" followed by the first `labels` bytes of `parents` is
+ * its tree file, as `yendlowa_weigh` takes it.
  *
  * Takes    a policy file.
  * Gives    the plan.
- * Refuses  as `yendlowa_read_policy`.
+ * Refuses  as `yendlowa_read_policy` does.
  */
 yendlowa_planned yendlowa_plan(const uint8_t *policy, size_t policy_length);
 
@@ -121,34 +123,34 @@ typedef struct yendlowa_weighed {
     uint8_t refusal;
     bool least;       /* whether no tree of the policy needs fewer */
     uint8_t zeros[2]; /* always 0 */
-    uint32_t total;   /* the keys that the tree issues to all accounts */
+    uint32_t total;   /* the keys issued to all accounts under the tree */
 } yendlowa_weighed;
 
 /*
- * A tree offered by someone else.
+ * The total of a tree that somebody offers instead of the plan's.
  *
- * Takes    a policy file, and a tree file: TR, then one byte for each label, its parent's number; the top's byte is 0.
+ * Takes    a policy file, and a tree file: TR, then for each label one byte, its parent's number; the top's byte is 0.
  * Gives    the tree's total, and whether it is the least.
- * Refuses  as `yendlowa_read_policy`; then 2, 11, 12 for the tree file.
+ * Refuses  as `yendlowa_read_policy` does; then 2, 11 and 12 for the tree file.
  */
 yendlowa_weighed yendlowa_weigh(const uint8_t *policy, size_t policy_length, const uint8_t *tree, size_t tree_length);
 
 /*
- * The plan as text: a line for each label and one with the total, as the program `plan` prints it. No null byte is written
- * behind the text. The line REFUSED that the program prints for a refused policy is not written here.
+ * The plan as text: a line for each label and one with the total, as `yendlowa plan` prints it. No null byte follows
+ * the text. For a refused policy nothing is written; the line REFUSED is the program's.
  *
  * Takes    a policy file, and a buffer; YENDLOWA_TEXT_ROOM bytes always suffice.
- * Gives    the length of the text, which stands in the buffer from its start on.
- * Refuses  as `yendlowa_read_policy`; then 16.
+ * Gives    the length of the text, which starts at the buffer's start.
+ * Refuses  as `yendlowa_read_policy` does; then 16.
  */
 yendlowa_written yendlowa_plan_text(const uint8_t *policy, size_t policy_length, uint8_t *out, size_t out_length);
 
 /*
- * The plan as a drawing in the language of Graphviz' dot. No null byte is written behind the drawing.
+ * The plan as a drawing for Graphviz, in the language DOT, as `yendlowa draw` prints it. No null byte follows the drawing.
  *
  * Takes    a policy file, and a buffer; YENDLOWA_DRAWING_ROOM bytes always suffice.
- * Gives    the length of the drawing, which stands in the buffer from its start on.
- * Refuses  as `yendlowa_read_policy`; then 16.
+ * Gives    the length of the drawing, which starts at the buffer's start.
+ * Refuses  as `yendlowa_read_policy` does; then 16.
  */
 yendlowa_written yendlowa_plan_dot(const uint8_t *policy, size_t policy_length, uint8_t *out, size_t out_length);
 
@@ -160,11 +162,11 @@ typedef struct yendlowa_label_key {
 } yendlowa_label_key;
 
 /*
- * The issuer's key of a label, the same that `yendlowa_derive` gives at every desk that may open it.
+ * The issuer's key of a label: the key that `yendlowa_derive` gives at every desk that may open the label.
  *
  * Takes    a policy file, the label's name (8 bytes, padded with spaces), and the root secret (32 bytes).
  * Gives    the key.
- * Refuses  as `yendlowa_read_policy`; then 13, 15.
+ * Refuses  as `yendlowa_read_policy` does; then 13 and 15.
  */
 yendlowa_label_key yendlowa_issuer_key(const uint8_t *policy, size_t policy_length, const uint8_t *name, size_t name_length,
                                        const uint8_t *root, size_t root_length);
@@ -174,11 +176,26 @@ yendlowa_label_key yendlowa_issuer_key(const uint8_t *policy, size_t policy_leng
  *
  * Takes    a policy file, the name of the account's label (8 bytes, padded with spaces), the account's number (1 to the label's
  *          accounts), the root secret (32 bytes), and a buffer; YENDLOWA_ENVELOPE_ROOM bytes always suffice.
- * Gives    the length of the envelope, which stands in the buffer from its start on.
- * Refuses  as `yendlowa_read_policy`; then 13, 14, 15, 16.
+ * Gives    the length of the envelope, which starts at the buffer's start.
+ * Refuses  as `yendlowa_read_policy` does; then 13, 14, 15 and 16.
  */
 yendlowa_written yendlowa_issue(const uint8_t *policy, size_t policy_length, const uint8_t *name, size_t name_length,
                                 uint32_t account, const uint8_t *root, size_t root_length, uint8_t *out, size_t out_length);
+
+typedef struct yendlowa_root_fingerprint {
+    uint8_t refusal;
+    uint8_t bytes[8];
+} yendlowa_root_fingerprint;
+
+/*
+ * The fingerprint of a root secret, by which people see whether a file is the root secret that they mean: the first 8 bytes of
+ * HMAC-SHA-256 under it of the text "Yendlowa root fingerprint". No name has that length, so no secret and no key is made from it.
+ *
+ * Takes    the root secret (32 bytes).
+ * Gives    the fingerprint.
+ * Refuses  15.
+ */
+yendlowa_root_fingerprint yendlowa_fingerprint(const uint8_t *root, size_t root_length);
 
 /* ---- hash ---- */
 
@@ -200,7 +217,7 @@ yendlowa_digest yendlowa_sha256(const uint8_t *message, size_t message_length);
  * HMAC-SHA-256 (FIPS 198-1).
  *
  * Takes    a key and a message of up to 65,536 bytes each.
- * Gives    the message's code under the key.
+ * Gives    the message's authentication code under the key.
  * Refuses  21.
  */
 yendlowa_digest yendlowa_hmac_sha256(const uint8_t *key, size_t key_length, const uint8_t *message, size_t message_length);

@@ -1,55 +1,103 @@
 /*
- * What both libraries of Yendlowa share: sizes, and the numbers that a call is refused under.
+ * What both libraries of Yendlowa share: sizes, the numbers of the refusals with their words, and a function that pads a name.
+ * Both libraries have the two functions, and a program may link both.
  *
- * Every answer that can be refused starts with the number, 0 when nothing is refused. Beside a refusal every other number of
- * the answer is 0, a yes or no is no, a key or digest is all zeros, and a buffer that was lent is unchanged. The two functions
- * that answer where reading stops (`yendlowa_policy_records`, `yendlowa_envelope_records`) refuse nothing.
+ * Every answer that can be a refusal starts with its number, which is 0 when nothing is refused. With a refusal every other number
+ * of the answer is 0, every bool is false, a key or digest is all zeros, and a lent buffer is unchanged. Each function lists the
+ * numbers that it can give, in the order of its checks: the first check that fails decides. The two functions that say where
+ * reading stops (`yendlowa_policy_records`, `yendlowa_envelope_records`) and `yendlowa_refusal_text` refuse nothing.
  *
  * No answer has padding. Where the fields alone would leave a gap, a field `zeros` fills it, and its bytes are always 0.
  *
- * Each function says which numbers it gives and in which order it asks: the first check that fails is answered.
+ * <yendlowa_version.h> has the version.
  */
 #ifndef YENDLOWA_REFUSALS_H
 #define YENDLOWA_REFUSALS_H
 
-#define YENDLOWA_NAME 8                        /* bytes of a label's name, padded with spaces at its end */
-#define YENDLOWA_KEY 32                        /* bytes of a key, a secret or a digest */
-#define YENDLOWA_LABELS 64                     /* the most labels of a policy, and records of an envelope */
-#define YENDLOWA_ENVELOPE_ROOM (12 + 64 * 42)  /* no envelope has more bytes */
+#include <stddef.h>
+#include <stdint.h>
+
+#ifdef __cplusplus
+extern "C" {
+#endif
+
+#define YENDLOWA_NAME 8    /* the bytes of a label's name, padded with spaces at the end */
+#define YENDLOWA_KEY 32    /* the bytes of a key, a secret or a digest */
+#define YENDLOWA_LABELS 64 /* the most labels that a policy can have, and the most records of an envelope */
+
+/*
+ * How much of an envelope decides: more bytes than this do not change an answer, so it is enough to read this many from a file.
+ * A buffer of this size also has room for every envelope that is issued.
+ */
+#define YENDLOWA_ENVELOPE_ROOM 2742
 
 enum yendlowa_refusal {
     YENDLOWA_ACCEPTED = 0,         /* not refused */
 
     /* policy file; 2, 3, 5, 6 and 7 are given for envelopes too, and 2 for tree files */
-    YENDLOWA_EMPTY = 1,            /* a policy of length 0 */
-    YENDLOWA_BAD_MARK = 2,         /* a single byte left (in a tree file, none or one), or a mark that does not belong here */
+    YENDLOWA_EMPTY = 1,            /* the policy file is empty */
+    YENDLOWA_BAD_MARK = 2,         /* fewer than 2 bytes are left, or the mark does not belong in this file */
     YENDLOWA_CUT_SHORT = 3,        /* a record is cut short */
-    YENDLOWA_LABEL_AFTER_PAIR = 4, /* an LB record after an OV record */
-    YENDLOWA_TOO_MANY = 5,         /* a 65th label, 513th OV record or 65th envelope record */
-    YENDLOWA_BAD_NAME = 6,         /* a name that is not letters A to Z and digits, at least one, then spaces */
-    YENDLOWA_NAME_TWICE = 7,       /* a name that an earlier record carries */
-    YENDLOWA_NO_SUCH_LABEL = 8,    /* an OV record with a number that is not below the label count */
-    YENDLOWA_NOT_ABOVE = 9,        /* an OV record whose upper number is not less than its lower */
-    YENDLOWA_SECOND_TOP = 10,      /* at the end: a label other than 0 is never the lower of a pair */
+    YENDLOWA_LABEL_AFTER_PAIR = 4, /* an LB record follows an OV record */
+    YENDLOWA_TOO_MANY = 5,         /* a 65th label, a 513th OV record or a 65th envelope record */
+    YENDLOWA_BAD_NAME = 6,         /* a name is not letters A to Z and digits, at least one, then spaces */
+    YENDLOWA_NAME_TWICE = 7,       /* a name is carried by an earlier record */
+    YENDLOWA_NO_SUCH_LABEL = 8,    /* a number of an OV record is not a label's */
+    YENDLOWA_NOT_ABOVE = 9,        /* the upper number of an OV record is not less than the lower */
+    YENDLOWA_SECOND_TOP = 10,      /* at the end: a label other than the first is never the lower of a pair */
 
     /* tree file, after 2 */
-    YENDLOWA_TREE_LENGTH = 11,     /* its length is not 2 plus the label count */
-    YENDLOWA_TREE_PARENT = 12,     /* a byte that is no strictly higher label, or the top's byte is not 0 */
+    YENDLOWA_TREE_LENGTH = 11,     /* the length is not 2 plus the number of labels */
+    YENDLOWA_TREE_PARENT = 12,     /* a byte is not the number of a strictly higher label, or the top's byte is not 0 */
 
-    /* what else a call is given */
-    YENDLOWA_UNKNOWN_LABEL = 13,   /* the name asked for is not in the policy, or has not 8 bytes */
-    YENDLOWA_NO_ACCOUNT = 14,      /* the account number is 0 or above the label's count */
-    YENDLOWA_ROOT_LENGTH = 15,     /* the root secret has not 32 bytes */
-    YENDLOWA_NO_ROOM = 16,         /* the lent buffer is shorter than what is to be written */
+    /* what else is passed to a call */
+    YENDLOWA_UNKNOWN_LABEL = 13,   /* the policy has no label with this name (a name has exactly 8 bytes) */
+    YENDLOWA_NO_ACCOUNT = 14,      /* the account number is 0 or above the label's number of accounts */
+    YENDLOWA_ROOT_LENGTH = 15,     /* the root secret does not have 32 bytes */
+    YENDLOWA_NO_ROOM = 16,         /* the lent buffer is too short for what is to be written */
 
     /* envelope */
-    YENDLOWA_BAD_HEADER = 17,      /* under 12 bytes, mark not EN, or account 0 */
-    YENDLOWA_BAD_FIRST = 18,       /* the first record is missing, is not KS, or its name is unlike the header's */
-    YENDLOWA_BAD_PLACE = 19,       /* a KD record's place is not less than its own */
-    YENDLOWA_NOT_LICENSED = 20,    /* the name asked for is not in the envelope, or has not 8 bytes */
+    YENDLOWA_BAD_HEADER = 17,      /* the header has fewer than 12 bytes, a mark other than EN, or account 0 */
+    YENDLOWA_BAD_FIRST = 18,       /* the first record is missing, is not a KS, or does not carry the header's name */
+    YENDLOWA_BAD_PLACE = 19,       /* the place in a KD record is not less than the record's own */
+    YENDLOWA_NOT_LICENSED = 20,    /* the envelope has no label with this name (a name has exactly 8 bytes) */
 
     /* hash, HMAC */
-    YENDLOWA_TOO_LONG = 21         /* a key or message above 65,536 bytes */
+    YENDLOWA_TOO_LONG = 21         /* a key or message has more than 65,536 bytes */
 };
+
+typedef struct yendlowa_text {
+    char text[80]; /* ends with a null byte; all bytes after the words are 0 */
+} yendlowa_text;
+
+/*
+ * The words of a refusal, in English and without a line feed: "the root secret does not have 32 bytes" for 15.
+ *
+ * Takes    any number.
+ * Gives    its words; "accepted" for 0, and "no such refusal" above 21.
+ * Refuses  nothing.
+ */
+yendlowa_text yendlowa_refusal_text(uint8_t number);
+
+/* The answer of a function that writes into a lent buffer. */
+typedef struct yendlowa_written {
+    uint8_t refusal;
+    uint8_t zeros[7]; /* always 0 */
+    size_t length;    /* how many bytes were written, from the buffer's start on */
+} yendlowa_written;
+
+/*
+ * A name as it is typed, padded with spaces to the 8 bytes that the other functions take. A name that is longer than 8 bytes is
+ * written unchanged, and those functions refuse it.
+ *
+ * Takes    a name without its padding or with it, and a buffer. The buffer must not overlap the name.
+ * Gives    the length of what is written: 8, or that of a longer name.
+ * Refuses  16 when the buffer is shorter than that; it is then unchanged.
+ */
+yendlowa_written yendlowa_pad_name(const uint8_t *typed, size_t typed_length, uint8_t *out, size_t out_length);
+
+#ifdef __cplusplus
+}
+#endif
 
 #endif

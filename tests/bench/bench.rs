@@ -139,6 +139,7 @@ fn issuer_rows() {
     issue_row("issue, the same, to the top", policy, b"MODULE00", 1);
     issue_row("issue, 55 secrets, two steps from the root", &two_layers(), b"LABEL02 ", 55);
     issue_row("issue, 31 secrets, 33 steps from the root", &deep(), b"LABEL33 ", 31);
+    row("fingerprint", two(|| ours::fingerprint(root), || hash::fingerprint(root)));
 }
 
 fn derive_row(what: &str, envelope: &[u8], name: &[u8], applications: u8) {

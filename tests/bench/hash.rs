@@ -1,7 +1,7 @@
 //! SHA-256 and HMAC in plain Rust, and HMAC of a 32-byte key and an 8-byte message by itself: constant tables,
 //! eight rounds a turn, and nothing allocated.
 
-use crate::library::Digest;
+use crate::library::{Digest, RootFingerprint};
 
 const K: [u32; 64] = [
     0x428a2f98, 0x71374491, 0xb5c0fbcf, 0xe9b5dba5, 0x3956c25b, 0x59f111f1, 0x923f82a4, 0xab1c5ed5,
@@ -108,6 +108,14 @@ pub fn hmac_sha256(key: &[u8], message: &[u8]) -> Digest {
     };
     let inner = finish(padded(0x36), 64, message);
     Digest { refusal: 0, bytes: finish(padded(0x5c), 64, &inner) }
+}
+
+pub fn fingerprint(root: &[u8]) -> RootFingerprint {
+    if root.len() != 32 {
+        return RootFingerprint { refusal: 15, bytes: [0; 8] };
+    }
+    let mac = hmac_sha256(root, b"Yendlowa root fingerprint").bytes;
+    RootFingerprint { refusal: 0, bytes: std::array::from_fn(|i| mac[i]) }
 }
 
 /// The state after the padded key's block, and then after a last block: a message's words, the end bit, and the

@@ -50,6 +50,10 @@ pub fn issue(policy: &[u8], name: &[u8], account: u32, root: &[u8], envelope: &m
     unsafe { yendlowa_issue(policy, length, name, name_length, account, root, root_length, into, room) }
 }
 
+pub fn fingerprint(root: &[u8]) -> RootFingerprint {
+    unsafe { yendlowa_fingerprint(root.as_ptr(), root.len()) }
+}
+
 pub fn derive(envelope: &[u8], name: &[u8]) -> Derived {
     unsafe { yendlowa_derive(envelope.as_ptr(), envelope.len(), name.as_ptr(), name.len()) }
 }

@@ -1,6 +1,6 @@
 /*
  * Each byte of an answer is fixed by what was passed. A call is made several times, each time in memory, over a stack and after
- * secrets that hold other bytes than before; all bytes of its answer have to be the same, and zeros behind a refusal.
+ * secrets that hold other bytes than before; all bytes of its answer have to be the same, and zeros after a refusal.
  */
 #include "groups.h"
 #include <string.h>
@@ -49,6 +49,11 @@ static void plan_dot(void *answer, const bytes *in)
     yendlowa_written w = yendlowa_plan_dot(in[0].at, in[0].length, out, sizeof out);
     memcpy(answer, &w, sizeof w);
 }
+static void pad_name(void *answer, const bytes *in)
+{
+    yendlowa_written w = yendlowa_pad_name(in[0].at, in[0].length, out, sizeof out);
+    memcpy(answer, &w, sizeof w);
+}
 static void issue(void *answer, const bytes *in)
 {
     yendlowa_written w =
@@ -58,6 +63,11 @@ static void issue(void *answer, const bytes *in)
 static void issuer_key(void *answer, const bytes *in)
 {
     check(key_into(answer, in[0].at, in[0].length, in[1].at, in[1].length, in[2].at, in[2].length) == answer);
+}
+static void fingerprint(void *answer, const bytes *in)
+{
+    yendlowa_root_fingerprint f = yendlowa_fingerprint(in[0].at, in[0].length);
+    memcpy(answer, &f, sizeof f);
 }
 static void derive(void *answer, const bytes *in)
 {
@@ -88,10 +98,13 @@ static const struct {
     {plan_text, sizeof(yendlowa_written), YENDLOWA_NOT_ABOVE, {TEXT(E "OV\3\3")}},
     {plan_dot, sizeof(yendlowa_written), YENDLOWA_ACCEPTED, {TEXT(E)}},
     {plan_dot, sizeof(yendlowa_written), YENDLOWA_NOT_ABOVE, {TEXT(E "OV\3\3")}},
+    {pad_name, sizeof(yendlowa_written), YENDLOWA_ACCEPTED, {TEXT("CONV32")}},
     {issue, sizeof(yendlowa_written), YENDLOWA_ACCEPTED, {TEXT(E), TEXT(NAME), TEXT(ROOT)}},
     {issue, sizeof(yendlowa_written), YENDLOWA_ROOT_LENGTH, {TEXT(E), TEXT(NAME), TEXT("")}},
     {issuer_key, sizeof(yendlowa_label_key), YENDLOWA_ACCEPTED, {TEXT(E), TEXT(NAME), TEXT(ROOT)}},
     {issuer_key, sizeof(yendlowa_label_key), YENDLOWA_ROOT_LENGTH, {TEXT(E), TEXT(NAME), TEXT("")}},
+    {fingerprint, sizeof(yendlowa_root_fingerprint), YENDLOWA_ACCEPTED, {TEXT(ROOT)}},
+    {fingerprint, sizeof(yendlowa_root_fingerprint), YENDLOWA_ROOT_LENGTH, {TEXT(ROOT "!")}},
     {derive, sizeof(yendlowa_derived), YENDLOWA_ACCEPTED, {TEXT(ENVELOPE), TEXT("ACCRUED ")}},
     {derive, sizeof(yendlowa_derived), YENDLOWA_NOT_LICENSED, {TEXT(ENVELOPE), TEXT("CURVES  ")}},
     {labels, sizeof(yendlowa_labels_read), YENDLOWA_ACCEPTED, {TEXT(ENVELOPE)}},
@@ -125,14 +138,14 @@ static uint8_t *answered(size_t i, const bytes *in, uint8_t byte, bool secrets)
 {
     static _Alignas(16) uint8_t memory[BESIDE + ROOM + BESIDE];
     static uint8_t filled[sizeof memory];
-    size_t behind = BESIDE + calls[i].size;
+    size_t after = BESIDE + calls[i].size;
     memset(memory, byte, sizeof memory);
     memset(filled, byte, sizeof filled);
     memset(out, byte, sizeof out);
     if (secrets) work_with_secrets(byte);
     else fill_stack(byte);
     calls[i].ask(memory + BESIDE, in);
-    check(memcmp(memory, filled, BESIDE) == 0 && memcmp(memory + behind, filled, sizeof memory - behind) == 0);
+    check(memcmp(memory, filled, BESIDE) == 0 && memcmp(memory + after, filled, sizeof memory - after) == 0);
     return memory + BESIDE;
 }
 

@@ -103,9 +103,9 @@ uint8_t *lend(size_t length)
 bool holds_only(bytes written)
 {
     size_t front = lent == NULL ? 0 : (size_t)(lent - lent_room);
-    size_t behind = front + written.length;
+    size_t after = front + written.length;
     return same(lent, written) && memcmp(lent_room, pattern, front) == 0
-           && memcmp(lent_room + behind, pattern + behind, ROOM - behind) == 0;
+           && memcmp(lent_room + after, pattern + after, ROOM - after) == 0;
 }
 
 bytes read_file(const char *path)

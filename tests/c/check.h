@@ -11,7 +11,7 @@ typedef struct {
     size_t length;
 } bytes;
 
-/* the bytes of a string literal, without the null byte behind it */
+/* the bytes of a string literal, without the null byte after it */
 #define BYTES(text) ((bytes){(const uint8_t *)(text), sizeof(text) - 1})
 /* the same in an initialiser */
 #define TEXT(text) {(const uint8_t *)(text), sizeof(text) - 1}
@@ -28,7 +28,7 @@ bool all_zero(const void *at, size_t length);
 bool same(const void *at, bytes expected);
 bool is_hex(const uint8_t *at, size_t length, const char *digits);
 
-/* Where bytes are put: directly before a page that cannot be touched, directly behind one, or, if there are none, nowhere. */
+/* Where bytes are put: directly before a page that cannot be touched, directly after one, or nowhere if there are none. */
 enum side { AT_THE_END, AT_THE_START, NULL_IF_EMPTY, SIDES };
 extern enum side side;
 
@@ -36,7 +36,7 @@ extern enum side side;
 enum { INPUTS = 3 };
 bytes input(int place, bytes from);
 
-/* A buffer to lend, and whether it holds the bytes written at its start and is unchanged else, before and behind it too. */
+/* A buffer to lend, and whether the bytes written stand at its start while the rest of it, and what is before and after it, is unchanged. */
 uint8_t *lend(size_t length);
 bool holds_only(bytes written);
 

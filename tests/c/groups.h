@@ -12,14 +12,17 @@
 /* 64 labels and 512 pairs, with the text of its plan; the drawing of E */
 #define FULL_POLICY "tests/plan/full.policy"
 #define FULL_TEXT "tests/plan/full.txt"
-#define E_DRAWING "crates/plan_dot/stdout"
+#define E_DRAWING "tests/c/e.dot"
 
 void hashes(void);
 void policies(void);
 void plans(void);
 void texts(void);
 void issuing(void);
+void fingerprints(void);
 void deriving(void);
+void names(void);
+void rooms(void);
 void answers(void);
 void threads(void);
 

@@ -58,6 +58,10 @@ NEXT(yendlowa_weighed, least, zeros, 2);
 NEXT(yendlowa_weighed, zeros, total, 4);
 LAST(yendlowa_weighed, total);
 
+SIZE(yendlowa_text, 80);
+FIRST(yendlowa_text, text);
+LAST(yendlowa_text, text);
+
 SIZE(yendlowa_written, 16);
 FIRST(yendlowa_written, refusal);
 NEXT(yendlowa_written, refusal, zeros, 1);
@@ -68,6 +72,11 @@ SIZE(yendlowa_label_key, 33);
 FIRST(yendlowa_label_key, refusal);
 NEXT(yendlowa_label_key, refusal, key, 1);
 LAST(yendlowa_label_key, key);
+
+SIZE(yendlowa_root_fingerprint, 9);
+FIRST(yendlowa_root_fingerprint, refusal);
+NEXT(yendlowa_root_fingerprint, refusal, bytes, 1);
+LAST(yendlowa_root_fingerprint, bytes);
 
 SIZE(yendlowa_derived, 34);
 FIRST(yendlowa_derived, refusal);

@@ -14,7 +14,10 @@ int main(void)
     everywhere("plans and trees weighed", plans);
     everywhere("texts and drawings, into buffers of every length", texts);
     everywhere("keys, and envelopes into buffers of every length", issuing);
+    everywhere("fingerprints of root secrets", fingerprints);
     everywhere("envelopes read at the desk", deriving);
+    everywhere("the words of refusals, and names padded", names);
+    everywhere("how much of a file decides", rooms);
     everywhere("every byte of an answer, whatever memory and stack held before", answers);
     everywhere("four threads at once", threads);
     return report();

@@ -28,10 +28,17 @@ static bool planned(void)
            && yendlowa_plan_dot(e, e_length, text, sizeof text).refusal == YENDLOWA_ACCEPTED;
 }
 
+static bool told(void)
+{
+    uint8_t name[YENDLOWA_NAME];
+    return same(yendlowa_refusal_text(YENDLOWA_CUT_SHORT).text, BYTES("the record is cut short\0"))
+           && yendlowa_pad_name(e + 2, 5, name, sizeof name).length == 8 && same(name, BYTES("SUITE   "));
+}
+
 static void *turns(void *account)
 {
     size_t agreed = 0;
-    for (int i = 0; i < TURNS; i++) agreed += issued_and_derived(*(uint32_t *)account) && planned();
+    for (int i = 0; i < TURNS; i++) agreed += issued_and_derived(*(uint32_t *)account) && planned() && told();
     return (void *)agreed;
 }
 

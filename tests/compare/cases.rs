@@ -5,6 +5,7 @@
 use crate::deriving;
 use crate::envelope::{self, Envelope, Issuer};
 use crate::files;
+use crate::fingerprints;
 use crate::group::{hex, Answers, Group, Hex};
 use crate::issuing;
 use crate::ours;
@@ -35,7 +36,7 @@ const OF_ISSUE: &[u8] = &[0, 1, 2, 3, 4, 5, 6, 7, 8, 9, 10, 13, 14, 15, 16];
 const OF_ENVELOPE: &[u8] = &[0, 2, 3, 5, 6, 7, 17, 18, 19];
 const OF_DERIVE: &[u8] = &[0, 2, 3, 5, 6, 7, 17, 18, 19, 20];
 
-const OPERATIONS: [Operation; 14] = [
+const OPERATIONS: [Operation; 15] = [
     Operation { name: "sha256", run: sha256, refusals: &[0, 21] },
     Operation { name: "hmac_sha256", run: hmac_sha256, refusals: &[0, 21] },
     Operation { name: "read_policy", run: read_policy, refusals: OF_POLICY },
@@ -47,6 +48,7 @@ const OPERATIONS: [Operation; 14] = [
     Operation { name: "plan_dot", run: plan_dot, refusals: OF_TEXT },
     Operation { name: "issuer_key", run: issuer_key, refusals: OF_KEY },
     Operation { name: "issue", run: issue, refusals: OF_ISSUE },
+    Operation { name: "fingerprint", run: fingerprint, refusals: &[0, 15] },
     Operation { name: "derive", run: derive, refusals: OF_DERIVE },
     Operation { name: "labels", run: labels, refusals: OF_ENVELOPE },
     Operation { name: "envelope_records", run: envelope_records, refusals: OF_ENVELOPE },
@@ -316,6 +318,12 @@ fn issue(case: &mut Case) {
     let (file, name, root) = (&file[..], &name[..], &root[..]);
     let input = || format!("policy {}, name {}, account {account}, root {}", hex(file), hex(name), hex(root));
     case.compare_written(second, room, input, |buffer| ours::issue(file, name, account, root, buffer));
+}
+
+fn fingerprint(case: &mut Case) {
+    let root = root(case.random);
+    let second = fingerprints::fingerprint(case.hash, &root);
+    case.compare(refusal(&second), || hex(&root), ours::fingerprint(&root), second);
 }
 
 /// An envelope's file with names that its records have or had: a third are whole, some of these full.

@@ -70,6 +70,13 @@ pub struct IssuerKey {
 
 #[repr(C)]
 #[derive(Debug, PartialEq)]
+pub struct RootFingerprint {
+    pub refusal: u8,
+    pub bytes: [u8; 8],
+}
+
+#[repr(C)]
+#[derive(Debug, PartialEq)]
 pub struct Derived {
     pub refusal: u8,
     pub key: [u8; 32],
@@ -135,6 +142,7 @@ extern "C" {
         envelope: *mut u8,
         envelope_length: usize,
     ) -> Written;
+    pub fn yendlowa_fingerprint(root: *const u8, length: usize) -> RootFingerprint;
     pub fn yendlowa_derive(
         envelope: *const u8,
         envelope_length: usize,

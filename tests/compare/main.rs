@@ -10,6 +10,7 @@ mod cases;
 mod deriving;
 mod envelope;
 mod files;
+mod fingerprints;
 mod group;
 mod issuing;
 mod library;
@@ -35,6 +36,7 @@ fn groups(random: &mut Random, second: &sha256::Sha256) -> Vec<bool> {
         plans::groups(random, counts),
         issuing::groups(random, second, issued),
         deriving::groups(random, second, issued),
+        fingerprints::groups(random, second),
     ];
     let plans::Counts { plans, trees, texts } = counts;
     println!("compare: in all {plans} policies planned, {trees} trees weighed, {texts} texts written");

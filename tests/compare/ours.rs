@@ -122,6 +122,16 @@ pub fn issuer_key(policy: &[u8], name: &[u8], root: &[u8]) -> Result<[u8; 32], u
     }
 }
 
+/// The fingerprint of a root secret, or the refusal. Beside a refusal stand 8 zero bytes.
+pub fn fingerprint(root: &[u8]) -> Result<[u8; 8], u8> {
+    let answer = unsafe { yendlowa_fingerprint(at(root), root.len()) };
+    match (answer.refusal, answer.bytes) {
+        (0, bytes) => Ok(bytes),
+        (number, [0, 0, 0, 0, 0, 0, 0, 0]) => Err(number),
+        _ => Err(255),
+    }
+}
+
 /// The length of the envelope that was written into the buffer, or the refusal.
 pub fn issue(policy: &[u8], name: &[u8], account: u32, root: &[u8], envelope: &mut [u8]) -> Result<usize, u8> {
     length(unsafe {

@@ -5,11 +5,13 @@ use mathlib.Core.Path.{sym, _∙_}
 use native.Mathlib.Omega.{arith}
 use Rattle.envelope_file.proofs.Front.{derived-front, labels-front, records-front}
 use Rattle.dot.proofs.Front.{drawing-front}
+use Rattle.faults.proofs.Front.{second-top-front, ill-hung-front}
+use Rattle.fingerprint.proofs.Laws.{fingerprint-front}
 use Rattle.issuer_answers.proofs.Front.{key-front, issued-front, buffer-front, key-root-front, issued-root-front, buffer-root-front}
 use Rattle.plan_answers.proofs.Front.{weigh-front, weigh-tree-front}
 use Rattle.policy_file.proofs.Front.{front-answers, front-records}
 use Rattle.text.proofs.Printed.{printed-front}
-use Rattle.claims.specs.Programs.{front, OfPlans, OfLicence, OfDesk}
+use Rattle.claims.specs.Programs.{front, OfPlans, OfIssuer, OfDesk}
 
 pub plans-from-front : (policy : List ℕ) → OfPlans policy
 plans-from-front policy = record {
@@ -17,14 +19,17 @@ plans-from-front policy = record {
   drawing = sym (drawing-front 4096 (omega arith) policy);
 }
 
-pub licence-from-front : (policy tree name root : List ℕ) (account : ℕ) (out : List ℕ) (room : ℕ) → OfLicence policy tree name root account out room
-licence-from-front policy tree name root account out room = record {
+pub issuer-from-front : (policy tree name root : List ℕ) (account : ℕ) (out : List ℕ) (room : ℕ) → OfIssuer policy tree name root account out room
+issuer-from-front policy tree name root account out room = record {
   weighed = sym (weigh-front 4096 (omega arith) policy tree ∙ weigh-tree-front 4096 (omega arith) (front policy) tree);
   key = sym (key-front 4096 (omega arith) policy name root ∙ key-root-front 4096 (omega arith) (front policy) name root);
   issued = sym (issued-front 4096 (omega arith) policy name account root room ∙ issued-root-front 4096 (omega arith) (front policy) name root account room);
   written = sym (buffer-front 4096 (omega arith) policy name account root out ∙ buffer-root-front 4096 (omega arith) (front policy) name root account out);
   read = sym (front-answers 4096 (omega arith) policy);
+  fingerprint = sym (fingerprint-front 4096 (omega arith) root);
   refused-at = sym (front-records 4096 (omega arith) policy);
+  second-top = sym (second-top-front 4096 (omega arith) policy);
+  ill-hung = sym (ill-hung-front 4096 (omega arith) policy 4096 (omega arith) tree);
 }
 
 pub desk-from-front : (envelope name : List ℕ) → OfDesk envelope name

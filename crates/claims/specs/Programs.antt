@@ -7,6 +7,8 @@ use Rattle.envelope_file.specs.Derive.{derivedOf}
 use Rattle.envelope_file.specs.Labels.{envelopeLabels}
 use Rattle.envelope_file.specs.Whole.{envelopeRecordsRead}
 use Rattle.dot.specs.Answer.{printedDrawing}
+use Rattle.faults.specs.Faults.{secondTop, illHung}
+use Rattle.fingerprint.specs.Fingerprint.{fingerprintOf}
 use Rattle.issuer_answers.specs.Issue.{issuedOf, envelopeAfter}
 use Rattle.issuer_answers.specs.Keys.{issuerKeyOf}
 use Rattle.plan_answers.specs.Weighing.{weighOf}
@@ -17,21 +19,24 @@ use Rattle.text.specs.Printed.{printed}
 abbrev pub front : List ℕ → List ℕ
 front file = take 4096 file
 
--- `plan` and `plan_dot`, for refused policies too
+-- `yendlowa plan`, which prints what the program `plan` prints, and `yendlowa draw`; for refused policies too
 pub record OfPlans (policy : List ℕ) : Type 0 where
   pub text : printed (front policy) ≡ printed policy
   pub drawing : printedDrawing (front policy) ≡ printedDrawing policy
 
--- `licence`: its three verbs, and which record it names as refused
-pub record OfLicence (policy tree name root : List ℕ) (account : ℕ) (out : List ℕ) (room : ℕ) : Type 0 where
+-- `yendlowa weigh`, `key` and `issue`, the fingerprint that the latter two can print, and which record or label they name as refused
+pub record OfIssuer (policy tree name root : List ℕ) (account : ℕ) (out : List ℕ) (room : ℕ) : Type 0 where
   pub weighed : weighOf (front policy) (front tree) ≡ weighOf policy tree
   pub key : issuerKeyOf (front policy) name (front root) ≡ issuerKeyOf policy name root
   pub issued : issuedOf (front policy) name account (front root) room ≡ issuedOf policy name account root room
   pub written : envelopeAfter (front policy) name account (front root) out ≡ envelopeAfter policy name account root out
   pub read : policyOf (front policy) ≡ policyOf policy
+  pub fingerprint : fingerprintOf (front root) ≡ fingerprintOf root
   pub refused-at : policyRecordsRead (front policy) ≡ policyRecordsRead policy
+  pub second-top : secondTop (front policy) ≡ secondTop policy
+  pub ill-hung : illHung (front policy) (front tree) ≡ illHung policy tree
 
--- `desk`: its two verbs, and which record it names as refused
+-- `yendlowa-desk derive` and `labels`, and which record they name as refused
 pub record OfDesk (envelope name : List ℕ) : Type 0 where
   pub derived : derivedOf (front envelope) name ≡ derivedOf envelope name
   pub labels : envelopeLabels (front envelope) ≡ envelopeLabels envelope

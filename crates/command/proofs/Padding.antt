@@ -27,17 +27,17 @@ module _ (s : List ℕ) where
   unfolding paddedName
   long-stays h = rw (lt-ltb 8 (length s) h)
 
-  spaces-behind : length s ≤ 8 → paddedName s ≡ s ++ replicate (8 - length s) 32
+  spaces-after : length s ≤ 8 → paddedName s ≡ s ++ replicate (8 - length s) 32
   unfolding paddedName
-  spaces-behind h = rw (le-ltb 8 (length s) h)
+  spaces-after h = rw (le-ltb 8 (length s) h)
 
   -- the name copied over 8 spaces
   pub short-padded : length s ≤ 8 → take (length s) s ++ drop (length s) (replicate 8 32) ≡ paddedName s
-  short-padded h = rw (spaces-behind h, take-length s, drop-replicate (length s) 8 32)
+  short-padded h = rw (spaces-after h, take-length s, drop-replicate (length s) 8 32)
 
   -- what is typed with up to 8 bytes becomes a name of 8
   pub short-length : length s ≤ 8 → length (paddedName s) ≡ 8
-  short-length h = rw (spaces-behind h) (simp (length-append, length-replicate) (omega arith))
+  short-length h = rw (spaces-after h) (simp (length-append, length-replicate) (omega arith))
 
 -- spaces only
 spaces : (s : List ℕ) → ((i : ℕ) → i < length s → getD s i 0 ≡ 32) → s ≡ replicate (length s) 32
@@ -53,8 +53,8 @@ module _ (name : List ℕ) (form : NameForm name) (eight : length name ≡ 8) wh
   front : length (take n name) ≡ n
   front = length-take-le n name (form .within)
 
-  behind : drop n name ≡ replicate (8 - n) 32
-  behind =
+  after : drop n name ≡ replicate (8 - n) 32
+  after =
       let size : length (drop n name) ≡ 8 - n = length-drop n name ∙ ap (λ (k : ℕ). k - n) eight in
       spaces (drop n name) (λ i h. getD-drop n name i 0 ∙ form .space (n + i) (omega arith) (omega (arith, length-drop n name)))
       ∙ ap (λ (k : ℕ). replicate k 32) size
@@ -62,7 +62,7 @@ module _ (name : List ℕ) (form : NameForm name) (eight : length name ≡ 8) wh
   pub padded-back : paddedName (unpadded name) ≡ name
   padded-back =
       ap paddedName (unpadded-signs name form)
-      ∙ spaces-behind (take n name) (omega (arith, front, form .within))
+      ∙ spaces-after (take n name) (omega (arith, front, form .within))
       ∙ ap (λ (k : ℕ). take n name ++ replicate (8 - k) 32) front
-      ∙ ap (λ (l : List ℕ). take n name ++ l) (sym behind)
+      ∙ ap (λ (l : List ℕ). take n name ++ l) (sym after)
       ∙ take-append-drop n name

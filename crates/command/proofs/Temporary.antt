@@ -1,15 +1,15 @@
--- A path with `.XXXXXX` behind it, written in two parts.
-use Prim.Native.Nat.{ℕ, _+_, _≤_, _<_}
+-- A path with `.XXXXXX` after it, written in two parts.
+use Prim.Native.Nat.{ℕ, _+_, _<_}
 use mathlib.Core.List.{List, [], _∷_, _++_}
-use mathlib.Core.Path.{_≡_, refl, ap, _∙_}
+use mathlib.Core.Path.{_≡_}
 use native.Mathlib.Omega.{arith}
 use lib.ListN.{length, length-append}
-use Rattle.buffers.proofs.Handed.{handed-none, handed-room, left-none, left-room}
 use Rattle.buffers.proofs.Writes.{put-next}
 use Rattle.buffers.specs.Handed.{wrote, refusedWritten, handed, handedInto}
 use Rattle.buffers.specs.Put.{Put}
 use Rattle.buffers.specs.declared.Written.{Written}
 use Rattle.command.specs.Typed.{temporaryName}
+use Rattle.command.proofs.Handing.{refused-handed, put-handed}
 
 abbrev pub signs : List ℕ
 signs = 46 ∷ 88 ∷ 88 ∷ 88 ∷ 88 ∷ 88 ∷ 88 ∷ []
@@ -21,14 +21,9 @@ module _ (path out : List ℕ) where
 
   pub temporary-none : {w : Written} → w ≡ refusedWritten 16 → length out < length path + 7
       → (w ≡ handed (temporaryName path) (length out)) × (out ≡ handedInto (temporaryName path) out)
-  temporary-none e h =
-      (e ∙ handed-none _ _ (omega (arith, temporary-length)), left-none _ _ (omega (arith, temporary-length)))
+  temporary-none e h = refused-handed (temporaryName path) out e (omega (arith, temporary-length))
 
-  pub temporary-put : {mid after : List ℕ} {behind end : ℕ} → Put out mid 0 path behind → Put mid after behind signs end
+  pub temporary-put : {mid after : List ℕ} {next end : ℕ} → Put out mid 0 path next → Put mid after next signs end
       → (wrote end ≡ handed (temporaryName path) (length out)) × (after ≡ handedInto (temporaryName path) out)
   unfolding temporaryName
-  temporary-put {mid} {after} {behind} {end} a b =
-      let both : Put out after 0 (path ++ signs) end = put-next a b in
-      let fits : length (path ++ signs) ≤ length out = omega (arith, both .fits) in
-      let size : end ≡ length (path ++ signs) = omega (arith, both .behind) in
-      (ap wrote size ∙ handed-room _ _ fits, left-room _ _ fits (both .written))
+  temporary-put a b = put-handed (path ++ signs) out (put-next a b)

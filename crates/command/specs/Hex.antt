@@ -1,4 +1,4 @@
--- keys print in hexadecimal: two digits a byte, in ASCII and in lower case.
+-- Bytes in hexadecimal: two digits a byte, in ASCII and in lower case.
 use Prim.Native.Nat.{ℕ, _+_, _/_, _%_}
 use mathlib.Core.Bool.{cond}
 use mathlib.Core.List.{List, [], _∷_, _++_}

@@ -8,11 +8,11 @@ use Rattle.format.specs.Digits.{valueOf}
 use Rattle.command.specs.declared.Number.the-variants.{Is, Not}
 use Rattle.command.specs.declared.Number.{Number}
 
--- names are padded for the user: a name of up to 8 bytes with spaces behind it; a longer one stays as it is
+-- names are padded for the user: a name of up to 8 bytes with spaces after it; a longer one stays as it is
 unfoldable pub paddedName : List ℕ → List ℕ
 paddedName s = cond (ltb 8 (length s)) s (s ++ replicate (8 - length s) 32)
 
--- a path, and `.XXXXXX` behind it
+-- a path, and `.XXXXXX` after it
 unfoldable pub temporaryName : List ℕ → List ℕ
 temporaryName path = path ++ (46 ∷ 88 ∷ 88 ∷ 88 ∷ 88 ∷ 88 ∷ 88 ∷ [])
 

@@ -1,4 +1,4 @@
--- What `plan_dot` answers and leaves in the lent buffer, and what the program of that name prints.
+-- What `plan_dot` answers and leaves in the lent buffer, and what `yendlowa draw` prints.
 use Prim.Native.Nat.{ℕ}
 use mathlib.Core.List.{List}
 use Rattle.buffers.specs.Handed.{writtenUnless, bufferUnless}

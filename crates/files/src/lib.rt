@@ -1,8 +1,10 @@
-// A program's arguments, files read into a buffer, a file made whole or not at all. What fails is told on standard error.
-ghost use mathlib.Core.Bool.{true, false, cond};
+// A program's arguments, and files read into a buffer. What fails is told on standard error.
+use libc::STDERR_FILENO;
+use libc::STDIN_FILENO;
+ghost use mathlib.Core.Bool.{true, false};
 ghost use mathlib.Core.Logic.{_↔_};
 ghost use mathlib.Core.Path.{_≡_};
-ghost use lib.ListN.{length};
+ghost use Rattle.format.specs.Bytes.{sameBytes};
 ghost use Rattle.io.specs.Counts.{Counts};
 ghost use Rattle.files.specs.Asked.{AsksHelp};
 
@@ -12,10 +14,31 @@ pub struct Read {
     pub length: usize,
 }
 
-// How many bytes a new file has: all of those that were to be saved. Where it could not be made, it is not ok, and has none.
-pub struct Saved {
+// The same of two files.
+pub struct Both {
     pub ok: bool,
-    pub length: usize,
+    pub first: usize,
+    pub second: usize,
+}
+
+// Keeps the descriptors 0, 1 and 2 from every file that is opened later, so that no message can get into a file. One that is closed
+// is opened so that it fails all the same: 0 for writing, 1 and 2 for reading.
+pub fn keep_streams() {
+    let input = os::open_append(b"/dev/null");
+    if input != STDIN_FILENO {
+        libc::close(input);
+    }
+    let first = os::open_read(b"/dev/null");
+    let second = os::open_read(b"/dev/null");
+    release(first);
+    release(second);
+}
+
+// Closes a descriptor other than 0, 1 and 2.
+fn release(fd: i32) {
+    if STDERR_FILENO < fd {
+        libc::close(fd);
+    }
 }
 
 // Puts argument i at the start of the buffer, as much of it as the buffer holds, and answers how many bytes that is.
@@ -27,6 +50,20 @@ pub fn argument(i: usize, buffer: &mut [u8]) -> usize
         return buffer.len();
     }
     length
+}
+
+// Whether argument i is this word.
+pub fn is_argument(i: usize, word: &[u8]) -> bool {
+    let mut typed = io::buffer();
+    let length = argument(i, &mut typed);
+    check::same(&typed[..length], word)
+}
+
+// Whether a word is another.
+pub fn is_word(typed: &[u8], word: &[u8]) -> bool
+    ensures { λ r. ⌜ r ≡ sameBytes (now (typed .entry)) (now (word .entry)) ⌝ }
+{
+    check::same(typed, word)
 }
 
 // Whether the word that was typed asks how the program is called.
@@ -52,19 +89,26 @@ pub fn name_argument(i: usize, name: &mut [u8]) -> usize
     padded.length
 }
 
+// Tells why argument i is refused.
+pub fn tell_argument(program: &[u8], i: usize, number: u8) {
+    let mut typed = io::buffer();
+    let length = argument(i, &mut typed);
+    messages::tell_named(program, b"", &typed[..length], number);
+}
+
 // A file that could not be opened or read.
-fn unread(path: &[u8]) -> Read
+fn unread(program: &[u8], path: &[u8]) -> Read
     ensures { λ r. ⌜ (r .ok ≡ false) × (r .length ≡ 0) ⌝ }
 {
-    os::fail(path);
+    messages::file_failed(program, path);
     Read {
         ok: false,
         length: 0,
     }
 }
 
-// Reads an open file up to its end or the buffer's. A read that fails is told by the file's name, and nothing counts as read.
-pub fn read_input(fd: i32, name: &[u8], buffer: &mut [u8]) -> Read
+// Reads an open file up to its end or the buffer's. Where a read fails nothing counts as read.
+fn read_open(fd: i32, buffer: &mut [u8]) -> Read
     ensures { λ r. ⌜ Counts (r .length) (now (buffer .exit)) ⌝ }
     ensures { λ r. ⌜ (r .ok ≡ false → r .length ≡ 0) ⌝ }
 {
@@ -72,7 +116,10 @@ pub fn read_input(fd: i32, name: &[u8], buffer: &mut [u8]) -> Read
     while length < buffer.len() {
         let got = libc::read(fd, &mut buffer[length..]);
         if got < 0 {
-            return unread(name);
+            return Read {
+                ok: false,
+                length: 0,
+            };
         }
         let more = io::count(got, &buffer[length..]);
         if more == 0 {
@@ -83,98 +130,91 @@ pub fn read_input(fd: i32, name: &[u8], buffer: &mut [u8]) -> Read
     Read { ok: true, length }
 }
 
-// Reads the file that argument i names, up to its end or the buffer's.
-pub fn read_argument(i: usize, buffer: &mut [u8]) -> Read
+// Reads standard input up to its end or the buffer's.
+pub fn read_input(program: &[u8], buffer: &mut [u8]) -> Read
     ensures { λ r. ⌜ Counts (r .length) (now (buffer .exit)) ⌝ }
     ensures { λ r. ⌜ (r .ok ≡ false → r .length ≡ 0) ⌝ }
 {
-    let mut path = io::buffer();
-    let length = argument(i, &mut path);
-    let fd = os::open_read(&path[..length]);
-    if fd < 0 {
-        return unread(&path[..length]);
+    let read = read_open(STDIN_FILENO, buffer);
+    if !read.ok {
+        messages::failed(program, b"standard input");
     }
-    let read = read_input(fd, &path[..length], buffer);
+    read
+}
+
+// Reads a file up to its end or the buffer's.
+fn read_file(program: &[u8], path: &[u8], buffer: &mut [u8]) -> Read
+    ensures { λ r. ⌜ Counts (r .length) (now (buffer .exit)) ⌝ }
+    ensures { λ r. ⌜ (r .ok ≡ false → r .length ≡ 0) ⌝ }
+{
+    let fd = os::open_read(path);
+    if fd < 0 {
+        return unread(program, path);
+    }
+    let read = read_open(fd, buffer);
+    if !read.ok {
+        messages::file_failed(program, path);
+    }
     libc::close(fd);
     read
 }
 
-// Puts the name of a temporary file beside a file at the start of the buffer.
-fn name_beside(path: &[u8], name: &mut [u8]) -> usize
-    ensures { λ r. ⌜ Counts r (now (name .exit)) ⌝ }
+// Reads the file that argument i names, up to its end or the buffer's; `-` names standard input.
+pub fn read_argument(program: &[u8], i: usize, buffer: &mut [u8]) -> Read
+    ensures { λ r. ⌜ Counts (r .length) (now (buffer .exit)) ⌝ }
+    ensures { λ r. ⌜ (r .ok ≡ false → r .length ≡ 0) ⌝ }
 {
-    let beside = command::temporary_name(path, name);
-    beside.length
+    if is_argument(i, b"-") {
+        return read_input(program, buffer);
+    }
+    let mut path = io::buffer();
+    let length = argument(i, &mut path);
+    read_file(program, &path[..length], buffer)
 }
 
-// Writes all bytes to an open file, has them kept and closes it.
-fn fill(fd: i32, path: &[u8], bytes: &[u8]) -> bool {
-    if !(io::write_all(fd, bytes) && libc::fsync(fd) == 0) {
-        os::fail(path);
-        libc::close(fd);
-        return false;
-    }
-    if libc::close(fd) != 0 {
-        os::fail(path);
-        return false;
-    }
-    true
-}
-
-// Gives a file another name.
-fn move_to(from: &[u8], to: &[u8]) -> bool {
-    if os::rename(from, to) != 0 {
-        os::fail(to);
-        return false;
-    }
-    true
-}
-
-// Makes a temporary file that only its owner may read and write, and gives it the name of the file that is to be made.
-fn make_by(name: &mut [u8], path: &[u8], bytes: &[u8]) -> bool {
-    let fd = os::create_temp(name);
-    if fd < 0 {
-        os::fail(path);
-        return false;
-    }
-    if fill(fd, path, bytes) && move_to(name, path) {
+// Whether both arguments name standard input, which is then told.
+fn twice_input(program: &[u8], i: usize, j: usize) -> bool {
+    if is_argument(i, b"-") && is_argument(j, b"-") {
+        messages::tell_line(
+            program,
+            b"'-' is given twice, and standard input can be read only once",
+        );
         return true;
     }
-    os::unlink(name);
     false
 }
 
-// Makes a file by way of one beside it, so that it is there only when it is whole.
-fn make(path: &[u8], bytes: &[u8]) -> bool {
-    // Room for every path that an argument can be; `os` refuses one that is too long.
-    let mut name = [0u8; 8192];
-    let length = name_beside(path, &mut name);
-    make_by(&mut name[..length], path, bytes)
-}
-
-// Makes a file with these bytes, never over one that exists. The name is taken first, by an empty file, and the whole file is moved
-// over that. Where something fails nothing is left behind. Which of the two it is depends on the file system, of which no contract speaks.
-pub fn save(path: &[u8], bytes: &[u8]) -> Saved
-    ensures { λ r. ⌜ r .length ≡ cond (r .ok) (length (now (bytes .entry))) 0 ⌝ }
+// Reads the files that arguments i and j name, each up to its end or its buffer's. Where one cannot be read nothing counts.
+pub fn read_both(program: &[u8], i: usize, j: usize, first: &mut [u8], second: &mut [u8]) -> Both
+    ensures { λ r. ⌜ Counts (r .first) (now (first .exit)) ⌝ }
+    ensures { λ r. ⌜ Counts (r .second) (now (second .exit)) ⌝ }
 {
-    let taken = os::create(path);
-    if taken < 0 {
-        os::fail(path);
-        return Saved {
+    if twice_input(program, i, j) {
+        return Both {
             ok: false,
-            length: 0,
+            first: 0,
+            second: 0,
         };
     }
-    libc::close(taken);
-    if make(path, bytes) {
-        return Saved {
-            ok: true,
-            length: bytes.len(),
+    let read = read_argument(program, i, first);
+    if !read.ok {
+        return Both {
+            ok: false,
+            first: 0,
+            second: 0,
         };
     }
-    os::unlink(path);
-    Saved {
-        ok: false,
-        length: 0,
+    let then = read_argument(program, j, second);
+    if !then.ok {
+        return Both {
+            ok: false,
+            first: 0,
+            second: 0,
+        };
+    }
+    Both {
+        ok: true,
+        first: read.length,
+        second: then.length,
     }
 }

@@ -1,8 +1,10 @@
-// The issuer's keys and envelopes for C callers, each function by the equation of the operation itself. A slice is passed as a pointer and a length.
+// The issuer's keys, envelopes and root fingerprints for C callers, each function by the equation of the operation itself. A slice is passed as a pointer and a length.
 use buffers::Written;
+use fingerprint::RootFingerprint;
 use issuer_answers::IssuerKey;
 ghost use mathlib.Core.Path.{_≡_};
 ghost use lib.ListN.{length};
+ghost use Rattle.fingerprint.specs.Fingerprint.{fingerprintOf};
 ghost use Rattle.issuer_answers.specs.Keys.{issuerKeyOf};
 ghost use Rattle.issuer_answers.specs.Issue.{issuedOf, envelopeAfter};
 
@@ -24,4 +26,11 @@ pub extern "C" fn yendlowa_issue(
     ensures { λ r. ⌜ (r ≡ issuedOf (now (policy .entry)) (now (name .entry)) account (now (root .entry)) (length (now (envelope .entry)))) × (now (envelope .exit) ≡ envelopeAfter (now (policy .entry)) (now (name .entry)) account (now (root .entry)) (now (envelope .entry))) ⌝ }
 {
     issuer::issue(policy, name, account, root, envelope)
+}
+
+#[no_mangle]
+pub extern "C" fn yendlowa_fingerprint(root: &[u8]) -> RootFingerprint
+    ensures { λ r. ⌜ r ≡ fingerprintOf (now (root .entry)) ⌝ }
+{
+    fingerprint::fingerprint(root)
 }

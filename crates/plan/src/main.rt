@@ -1,7 +1,4 @@
 // Prints the plan of the policy on standard input. It takes no arguments.
-use libc::STDERR_FILENO;
-use libc::STDIN_FILENO;
-use libc::STDOUT_FILENO;
 ghost use Prim.Native.Nat.{_≤_};
 ghost use lib.ListN.{length};
 ghost use Rattle.buffers.specs.Put.{Put};
@@ -26,15 +23,13 @@ fn print_plan(policy: &[u8]) {
     // 4,096 bytes suffice (`printed-suffices`, crate text).
     let mut out = io::buffer();
     let length = put_plan(policy, &mut out);
-    if !io::write_all(STDOUT_FILENO, &out[..length]) {
-        os::fail(b"plan");
-    }
+    messages::answer(b"plan", &out[..length]);
 }
 
 fn read_policy() {
     // More than the 2,828 bytes that decide (`printed-front`, crate text).
     let mut policy = io::buffer();
-    let read = files::read_input(STDIN_FILENO, b"standard input", &mut policy);
+    let read = files::read_input(b"plan", &mut policy);
     let length = read.length;
     if read.ok {
         print_plan(&policy[..length]);
@@ -45,9 +40,9 @@ fn main() {
     if os::arg_count() == 1 {
         read_policy();
     } else {
-        io::write_all(
-            STDERR_FILENO,
-            b"plan <POLICY: prints the plan of a policy\n",
+        messages::tell_line(
+            b"plan",
+            b"wrong number of arguments; call it as: plan <POLICY",
         );
     }
 }

@@ -39,11 +39,11 @@ some-miss p (suc n) e = go (p n) refl e (λ h. some-miss p n h)
 module _ {n : ℕ} {R : ℕ → ℕ → Type 0} {le : ℕ → ℕ → Bool} (O : Order n R le) (tree : List ℕ) where
   -- ---- one label's byte
 
-  top-hangs : (hangsAt le tree top ≡ true) ↔ (parentIn tree top ≡ 0)
+  pub top-hangs : (hangsAt le tree top ≡ true) ↔ (parentIn tree top ≡ 0)
   unfolding hangsAt
   top-hangs = (eqb-true (parentIn tree top) top, eq-eqb (parentIn tree top) top)
 
-  above-hangs : (m : ℕ) → m < n → m ≢ top → (hangsAt le tree m ≡ true) ↔ Above n R (parentIn tree m) m
+  pub above-hangs : (m : ℕ) → m < n → m ≢ top → (hangsAt le tree m ≡ true) ↔ Above n R (parentIn tree m) m
   unfolding hangsAt
   above-hangs m hm ne = (there, back)
     where

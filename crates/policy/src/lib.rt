@@ -22,7 +22,7 @@ fn stop_number(kind: Kind) -> u8
 
 // What the records say from the first on, up to the end of the file, or to the first refused record with its number. The count of a label
 // and the numbers of a pair are stored as they are read.
-fn read_to_stop(policy: &[u8]) -> Policy
+pub fn read_to_stop(policy: &[u8]) -> Policy
     ensures { λ r. ⌜ r ≡ stopOf (now (policy .entry)) ⌝ }
 {
     let mut labels = 0;
@@ -72,7 +72,7 @@ fn lower_of(pair: Pair) -> usize
 }
 
 // Which numbers are the lower of one of the first `pairs` pairs.
-fn lowers(pairs: usize, over: [Pair; 512]) -> [bool; 256]
+pub fn lowers(pairs: usize, over: [Pair; 512]) -> [bool; 256]
     requires { ⌜ pairs ≤ 512 ⌝ }
     ensures { λ r. ⌜ r ≡ listed (isLower over pairs) 256 ⌝ }
 {

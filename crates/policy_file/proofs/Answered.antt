@@ -21,7 +21,7 @@ use Rattle.policy_file.specs.Whole.{noPair, refusedPolicy, isLowerOf, is
 use Rattle.policy_file.specs.declared.Policy.{Policy}
 
 -- the pairs read, as a table
-abbrev overOf : List ℕ → ℕ → ℕ → List Pair
+abbrev pub overOf : List ℕ → ℕ → ℕ → List Pair
 overOf file labels pairs = filled 512 noPair (pairAt file labels) pairs
 
 -- a label is the lower of a pair or not
@@ -29,13 +29,13 @@ module _ (file : List ℕ) (labels pairs m : ℕ) where
   read-lower : (k : ℕ) → k < pairs → getD (overOf file labels pairs) k noPair .lower ≡ pairAt file labels k .lower
   read-lower k l = ap (λ (p : Pair). p .lower) (getD-filled (pairAt file labels) 512 noPair pairs k noPair l)
 
-  lower-true : LowerOf file labels pairs m → isLower (overOf file labels pairs) pairs m ≡ true
+  pub lower-true : LowerOf file labels pairs m → isLower (overOf file labels pairs) pairs m ≡ true
   unfolding isLower isLowerOf
   lower-true l =
       some-at (isLowerOf (overOf file labels pairs) m) pairs (l .pair) (l .below)
       (eq-eqb (getD (overOf file labels pairs) (l .pair) noPair .lower) m (read-lower (l .pair) (l .below) ∙ l .lower))
 
-  lower-of : isLower (overOf file labels pairs) pairs m ≡ true → LowerOf file labels pairs m
+  pub lower-of : isLower (overOf file labels pairs) pairs m ≡ true → LowerOf file labels pairs m
   unfolding isLower isLowerOf
   lower-of e =
       let s = some-below (isLowerOf (overOf file labels pairs) m) pairs e in

@@ -1,3 +1,4 @@
 pub mod FirstLine
+pub mod Meaning
 pub mod Places
 pub mod Worked

@@ -37,9 +37,9 @@ module _ (number read : ℕ) where
   unfolding policyPlace
   policy-before h = rw (lt-leb 2 number h)
 
-  pub policy-behind : 9 < number → policyPlace number read ≡ bytesOf "policy file: "
+  pub policy-after : 9 < number → policyPlace number read ≡ bytesOf "policy file: "
   unfolding policyPlace
-  policy-behind h = rw (le-leb 2 number (omega arith), lt-leb number 9 h)
+  policy-after h = rw (le-leb 2 number (omega arith), lt-leb number 9 h)
 
   pub policy-short : length (policyPlace number read) ≤ 28
   unfolding policyPlace bytesOf

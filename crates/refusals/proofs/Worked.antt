@@ -3,31 +3,36 @@ use mathlib.Core.Path.{_≡_, refl}
 use Rattle.decimals.specs.Decimal.{digitsBefore, decimal, capped}
 use Rattle.decimals.specs.Text.{bytesOf}
 use Rattle.refusals.specs.Line.{line}
-use Rattle.refusals.specs.Refusals.{recordWords, pairWords, policyWords, treeWords, envelopeWords, askedWords}
-use Rattle.refusals.specs.Told.{recordPlace, policyPlace, envelopePlace, policyLine, treeLine, envelopeLine, askedLine}
+use Rattle.refusals.specs.Refusals.{refusalTexts, refusalWords}
+use Rattle.refusals.specs.Told.{recordPlace, policyPlace, envelopePlace, wordsLine, policyLine, treeLine, envelopeLine}
 
--- an empty policy; one whose third record, behind two that were read, is cut short
-pub policy-empty : policyLine 1 0 ≡ line "policy file: it is empty"
-unfolding policyLine policyPlace policyWords bytesOf line
+-- an empty policy; one whose third record, after two that were read, is cut short
+pub policy-empty : policyLine 1 0 ≡ line "policy file: the file is empty"
+unfolding policyLine policyPlace wordsLine refusalWords refusalTexts bytesOf line
 policy-empty = refl
 
-pub policy-cut : policyLine 3 2 ≡ line "policy record 3: it is cut short"
-unfolding policyLine policyPlace recordPlace policyWords pairWords recordWords bytesOf line capped decimal digitsBefore
+pub policy-cut : policyLine 3 2 ≡ line "policy record 3: the record is cut short"
+unfolding policyLine policyPlace recordPlace wordsLine refusalWords refusalTexts bytesOf line capped decimal digitsBefore
 policy-cut = refl
 
-pub tree-length : treeLine 11 ≡ line "tree file: its length is not 2 plus the number of labels"
-unfolding treeLine treeWords bytesOf line
+pub tree-length : treeLine 11 ≡ line "tree file: the length is not 2 plus the number of labels"
+unfolding treeLine wordsLine refusalWords refusalTexts bytesOf line
 tree-length = refl
 
 -- an envelope's header, and its first record
-pub envelope-short-header : envelopeLine 17 0 ≡ line "envelope header: it has under 12 bytes, its mark is not EN, or its account is 0"
-unfolding envelopeLine envelopePlace envelopeWords bytesOf line
-envelope-short-header = refl
+pub envelope-header : envelopeLine 17 0 ≡ line "envelope header: the header has fewer than 12 bytes, a mark other than EN, or account 0"
+unfolding envelopeLine envelopePlace wordsLine refusalWords refusalTexts bytesOf line
+envelope-header = refl
 
-pub envelope-first : envelopeLine 18 0 ≡ line "envelope record 1: it is missing, is no KS, or carries another name than the header"
-unfolding envelopeLine envelopePlace recordPlace envelopeWords bytesOf line capped decimal digitsBefore
+pub envelope-first : envelopeLine 18 0 ≡ line "envelope record 1: the first record is missing, is not a KS, or does not carry the header's name"
+unfolding envelopeLine envelopePlace recordPlace wordsLine refusalWords refusalTexts bytesOf line capped decimal digitsBefore
 envelope-first = refl
 
-pub asked-account : askedLine 14 ≡ line "the account number is 0 or above the label's number of accounts"
-unfolding askedLine askedWords bytesOf line
-asked-account = refl
+-- numbers that need no place, and one that is not given
+pub words-account : wordsLine 14 ≡ line "the account number is 0 or above the label's number of accounts"
+unfolding wordsLine refusalWords refusalTexts bytesOf line
+words-account = refl
+
+pub words-22 : wordsLine 22 ≡ line "no such refusal"
+unfolding wordsLine refusalWords refusalTexts bytesOf line
+words-22 = refl

@@ -1,60 +1,51 @@
--- The numbers of refusals in words (01, "Refusals by the place of checking"), a line each.
-use Prim.Native.Nat.{ℕ}
-use mathlib.Core.Bool.{cond}
-use mathlib.Core.List.{List}
-use lib.Dec.{eqb}
-use Rattle.refusals.specs.Line.{line}
+-- The numbers of refusals in words (01, "Refusals by the place of checking"), for programs and for C.
+use Prim.Native.Nat.{ℕ, _-_, _≤_, _<_}
+use Prim.Native.String.{String}
+use mathlib.Core.List.{List, [], _∷_}
+use mathlib.Core.Path.{_≡_}
+use lib.ListN.{length, getD, take, drop, replicate}
+use Rattle.decimals.specs.Text.{bytesOf}
+use Rattle.lists.specs.Buffer.{zeroFilled}
 
--- what records of policies and envelopes have in common
-unfoldable pub recordWords : ℕ → List ℕ
-recordWords number =
-    cond (eqb number 3) (line "it is cut short")
-    (cond (eqb number 6) (line "its name is badly formed (A to Z and digits, at least one, then spaces)")
-    (cond (eqb number 7) (line "its name is carried by an earlier record")
-    (line "refused")))
+-- what 0 to 21 mean; 0 is not a refusal
+unfoldable pub refusalTexts : List String
+refusalTexts =
+    "accepted"
+    ∷ "the file is empty"
+    ∷ "fewer than 2 bytes are left, or the mark does not belong in this file"
+    ∷ "the record is cut short"
+    ∷ "an LB record follows an OV record"
+    ∷ "a 65th label, a 513th over-pair or a 65th envelope record"
+    ∷ "the name is badly formed (A to Z and digits, at least one, then spaces)"
+    ∷ "the name is carried by an earlier record"
+    ∷ "a number of the over-pair is not a label's"
+    ∷ "the upper number of the over-pair is not less than the lower"
+    ∷ "a label other than the first is never the lower of an over-pair"
+    ∷ "the length is not 2 plus the number of labels"
+    ∷ "a byte is not the number of a strictly higher label, or the top's is not 0"
+    ∷ "the policy has no label with this name"
+    ∷ "the account number is 0 or above the label's number of accounts"
+    ∷ "the root secret does not have 32 bytes"
+    ∷ "the buffer is too short for what is to be written"
+    ∷ "the header has fewer than 12 bytes, a mark other than EN, or account 0"
+    ∷ "the first record is missing, is not a KS, or does not carry the header's name"
+    ∷ "the place in the KD record is not less than its own"
+    ∷ "the envelope has no label with this name"
+    ∷ "a key or message has more than 65,536 bytes"
+    ∷ []
 
--- an over-pair's refusals, and what is found at a policy's end
-unfoldable pub pairWords : ℕ → List ℕ
-pairWords number =
-    cond (eqb number 8) (line "an over-pair has a number that is no label's")
-    (cond (eqb number 9) (line "the upper number of an over-pair is not less than the lower")
-    (cond (eqb number 10) (line "a label other than the first is never the lower of a pair")
-    (recordWords number)))
+-- what a number means
+unfoldable pub refusalWords : (number : ℕ) → List ℕ
+refusalWords number = bytesOf (getD refusalTexts number "no such refusal")
 
--- a policy's refusals
-unfoldable pub policyWords : ℕ → List ℕ
-policyWords number =
-    cond (eqb number 1) (line "it is empty")
-    (cond (eqb number 2) (line "a single byte is left, or its mark is neither LB nor OV")
-    (cond (eqb number 4) (line "an LB stands behind an OV")
-    (cond (eqb number 5) (line "it is a 65th label or a 513th over-pair")
-    (pairWords number))))
+-- a text of 80 bytes for callers in C: the words, and zeros after them
+unfoldable pub textOf : (number : ℕ) → List ℕ
+textOf number = zeroFilled 80 (refusalWords number)
 
--- a tree file's refusals
-unfoldable pub treeWords : ℕ → List ℕ
-treeWords number =
-    cond (eqb number 2) (line "it does not open with the mark TR")
-    (cond (eqb number 11) (line "its length is not 2 plus the number of labels")
-    (cond (eqb number 12) (line "a parent is no label strictly above its own, or the top's byte is not 0")
-    (line "refused")))
-
--- an envelope's refusals
-unfoldable pub envelopeWords : ℕ → List ℕ
-envelopeWords number =
-    cond (eqb number 2) (line "a single byte is left, or its mark is neither KS nor KD")
-    (cond (eqb number 5) (line "it is a 65th record")
-    (cond (eqb number 17) (line "it has under 12 bytes, its mark is not EN, or its account is 0")
-    (cond (eqb number 18) (line "it is missing, is no KS, or carries another name than the header")
-    (cond (eqb number 19) (line "the place in a KD is not less than its own")
-    (recordWords number)))))
-
--- the refusals of what was asked for beside the files
-unfoldable pub askedWords : ℕ → List ℕ
-askedWords number =
-    cond (eqb number 13) (line "the name asked for is not in the policy, or has more than 8 bytes")
-    (cond (eqb number 14) (line "the account number is 0 or above the label's number of accounts")
-    (cond (eqb number 15) (line "the root secret has not 32 bytes")
-    (cond (eqb number 16) (line "the buffer is shorter than the envelope")
-    (cond (eqb number 20) (line "the name asked for is not in the envelope, or has more than 8 bytes")
-    (cond (eqb number 21) (line "a key or a message has more than 65,536 bytes")
-    (line "refused"))))))
+-- a text of 80 bytes is null-terminated exactly at the end of s: no byte of s is 0, and nothing but zeros comes after it
+pub record Terminated (s text : List ℕ) : Type 0 where
+  pub size : length text ≡ 80
+  pub short : length s ≤ 79
+  pub front : take (length s) text ≡ s
+  pub nonzero : (i : ℕ) → i < length s → 0 < getD s i 0
+  pub zeros : drop (length s) text ≡ replicate (80 - length s) 0

@@ -1,14 +1,15 @@
 -- What a user is told of a refusal: where it was given, and what it means.
 use Prim.Native.Nat.{ℕ, _+_}
 use mathlib.Core.Bool.{cond, _&&_}
-use mathlib.Core.List.{List, _++_}
+use mathlib.Core.List.{List, [], _∷_, _++_, map}
 use lib.Dec.{eqb, leb}
 use Rattle.decimals.specs.Decimal.{decimal, capped}
-use Rattle.decimals.specs.Worded.{space}
+use Rattle.decimals.specs.Worded.{space, newline}
 use Rattle.decimals.specs.Text.{bytesOf}
-use Rattle.refusals.specs.Refusals.{policyWords, treeWords, envelopeWords, askedWords}
+use Rattle.refusals.specs.Line.{line}
+use Rattle.refusals.specs.Refusals.{refusalTexts, refusalWords}
 
--- the record of a file behind those that were read; records are counted from 1, and no file has 65,535
+-- the record of a file after those that were read; records are counted from 1, and no file has 65,535
 unfoldable pub recordPlace : (records : List ℕ) (read : ℕ) → List ℕ
 recordPlace records read = records ++ (space ++ decimal (capped read + 1)) ++ bytesOf ": "
 
@@ -20,15 +21,19 @@ policyPlace number read = cond (leb 2 number && leb number 9) (recordPlace (byte
 unfoldable pub envelopePlace : (number read : ℕ) → List ℕ
 envelopePlace number read = cond (eqb number 17) (bytesOf "envelope header: ") (recordPlace (bytesOf "envelope record") read)
 
+-- the words and a line feed: "every line ends in one line feed"
+unfoldable pub wordsLine : (number : ℕ) → List ℕ
+wordsLine number = refusalWords number ++ newline
+
+-- the lines of 0 to 21, then that of any other number
+unfoldable pub tableLines : List (List ℕ)
+tableLines = map line refusalTexts ++ (wordsLine 22 ∷ [])
+
 unfoldable pub policyLine : (number read : ℕ) → List ℕ
-policyLine number read = policyPlace number read ++ policyWords number
+policyLine number read = policyPlace number read ++ wordsLine number
 
 unfoldable pub treeLine : (number : ℕ) → List ℕ
-treeLine number = bytesOf "tree file: " ++ treeWords number
+treeLine number = bytesOf "tree file: " ++ wordsLine number
 
 unfoldable pub envelopeLine : (number read : ℕ) → List ℕ
-envelopeLine number read = envelopePlace number read ++ envelopeWords number
-
--- what was asked for beside the files has no place
-unfoldable pub askedLine : (number : ℕ) → List ℕ
-askedLine number = askedWords number
+envelopeLine number read = envelopePlace number read ++ wordsLine number

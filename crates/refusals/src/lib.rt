@@ -1,4 +1,4 @@
-// What a user is told of a refusal, as a line in a buffer: where it was given, and what it means.
+// What a user is told of a refusal: where it was given, and what it means.
 mod words;
 
 ghost use mathlib.Core.Path.{_≡_};
@@ -6,7 +6,14 @@ ghost use Prim.Native.Nat.{_+_, _≤_};
 ghost use lib.ListN.{length};
 ghost use Rattle.buffers.specs.Put.{Put};
 ghost use Rattle.refusals.specs.Line.{firstLine};
-ghost use Rattle.refusals.specs.Told.{recordPlace, policyPlace, envelopePlace, policyLine, treeLine, envelopeLine, askedLine};
+ghost use Rattle.refusals.specs.Refusals.{textOf};
+ghost use Rattle.refusals.specs.Told.{recordPlace, policyPlace, envelopePlace, wordsLine, policyLine, treeLine, envelopeLine};
+
+// What a number means, with zeros after it, so null-terminated for callers in C.
+#[repr(C)]
+pub struct Text {
+    pub text: [u8; 80],
+}
 
 // How many bytes the first line has, with its line feed.
 fn line_length(text: &[u8]) -> usize
@@ -23,22 +30,22 @@ fn line_length(text: &[u8]) -> usize
 }
 
 // Writes the first line of a text from `at` on.
-fn put_first_line(out: &mut [u8], at: usize, text: [u8; 72]) -> usize
-    requires { ⌜ at + 72 ≤ length (now out) ⌝ }
+fn put_first_line(out: &mut [u8], at: usize, text: [u8; 80]) -> usize
+    requires { ⌜ at + 80 ≤ length (now out) ⌝ }
     ensures { λ r. ⌜ Put (now (out .entry)) (now (out .exit)) at (firstLine text) r ⌝ }
 {
     let end = line_length(&text);
     buffers::put_bytes(out, at, &text[..end])
 }
 
-// Writes that a refusal was given at the record behind those that were read. Records are counted from 1.
+// Writes that a refusal was given at the record after those that were read. Records are counted from 1.
 fn put_record(out: &mut [u8], records: &[u8], read: usize) -> usize
     requires { ⌜ length (recordPlace (now records) read) ≤ length (now out) ⌝ }
     ensures { λ r. ⌜ Put (now (out .entry)) (now (out .exit)) 0 (recordPlace (now (records .entry)) read) r ⌝ }
 {
     let number = decimals::capped(read) + 1;
-    let behind = buffers::put_bytes(out, 0, records);
-    let end = decimals::put_number(out, behind, number);
+    let next = buffers::put_bytes(out, 0, records);
+    let end = decimals::put_number(out, next, number);
     buffers::put_bytes(out, end, b": ")
 }
 
@@ -69,8 +76,8 @@ pub fn put_policy(out: &mut [u8], number: u8, read: usize) -> usize
     requires { ⌜ 128 ≤ length (now out) ⌝ }
     ensures { λ r. ⌜ Put (now (out .entry)) (now (out .exit)) 0 (policyLine number read) r ⌝ }
 {
-    let behind = put_policy_place(out, number, read);
-    put_first_line(out, behind, words::policy(number))
+    let next = put_policy_place(out, number, read);
+    put_first_line(out, next, words::meaning(number))
 }
 
 // Writes the line of a refused tree file.
@@ -78,8 +85,8 @@ pub fn put_tree(out: &mut [u8], number: u8) -> usize
     requires { ⌜ 128 ≤ length (now out) ⌝ }
     ensures { λ r. ⌜ Put (now (out .entry)) (now (out .exit)) 0 (treeLine number) r ⌝ }
 {
-    let behind = buffers::put_bytes(out, 0, b"tree file: ");
-    put_first_line(out, behind, words::tree(number))
+    let next = buffers::put_bytes(out, 0, b"tree file: ");
+    put_first_line(out, next, words::meaning(number))
 }
 
 // Writes the line of a refused envelope.
@@ -87,14 +94,25 @@ pub fn put_envelope(out: &mut [u8], number: u8, read: usize) -> usize
     requires { ⌜ 128 ≤ length (now out) ⌝ }
     ensures { λ r. ⌜ Put (now (out .entry)) (now (out .exit)) 0 (envelopeLine number read) r ⌝ }
 {
-    let behind = put_envelope_place(out, number, read);
-    put_first_line(out, behind, words::envelope(number))
+    let next = put_envelope_place(out, number, read);
+    put_first_line(out, next, words::meaning(number))
 }
 
-// Writes the line of what was asked for beside the files.
-pub fn put_asked(out: &mut [u8], number: u8) -> usize
+// Writes the line of a number alone.
+pub fn put_words(out: &mut [u8], number: u8) -> usize
     requires { ⌜ 128 ≤ length (now out) ⌝ }
-    ensures { λ r. ⌜ Put (now (out .entry)) (now (out .exit)) 0 (askedLine number) r ⌝ }
+    ensures { λ r. ⌜ Put (now (out .entry)) (now (out .exit)) 0 (wordsLine number) r ⌝ }
 {
-    put_first_line(out, 0, words::asked(number))
+    put_first_line(out, 0, words::meaning(number))
+}
+
+// What a number means, as a text of 80 bytes.
+pub fn refusal_text(number: u8) -> Text
+    ensures { λ r. ⌜ r .text ≡ textOf number ⌝ }
+{
+    let line = words::meaning(number);
+    let end = line_length(&line) - 1;
+    let mut text = [0u8; 80];
+    bytes::copy(&line[..end], &mut text);
+    Text { text }
 }

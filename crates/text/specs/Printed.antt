@@ -1,4 +1,4 @@
--- What the programs `plan` and `plan_dot` print for a refused policy (01, "The plan program and its text"), in ASCII.
+-- What the programs print for a policy, a refused one too (01, "The plan program and its text"), in ASCII.
 use Prim.Native.Nat.{ℕ}
 use mathlib.Core.Bool.{cond}
 use mathlib.Core.List.{List}

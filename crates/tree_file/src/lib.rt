@@ -16,7 +16,7 @@ fn parent_in(tree: &[u8], m: usize) -> u8
 }
 
 // Whether label `m`'s byte is in order: a strictly higher label, and the top's byte 0.
-fn hangs_at(rows: &[[bool; 64]; 64], tree: &[u8], m: usize) -> bool
+pub fn hangs_at(rows: &[[bool; 64]; 64], tree: &[u8], m: usize) -> bool
     requires { ⌜ (m < 64) × (m + 2 < length (now tree)) ⌝ }
     ensures { λ r. ⌜ r ≡ hangsAt (entryAt (now (rows .entry))) (now (tree .entry)) m ⌝ }
 {

@@ -13,13 +13,13 @@ returns c =
     let l = c .before .before in
     let w = l .before in
     let p = w .before .before .before .before in
-    rw (w .envelope .ensures) at (put-next (p .put-envelope-place .ensures) (l .put-first-line .ensures))
+    rw (w .meaning .ensures) at (put-next (p .put-envelope-place .ensures) (l .put-first-line .ensures))
 
 put-envelope-place-requires : tie.Need-put-envelope-place-requires
 put-envelope-place-requires c κs = search needs
 
-envelope-requires : tie.Need-envelope-requires
-envelope-requires c κs = search needs
+meaning-requires : tie.Need-meaning-requires
+meaning-requires c κs = search needs
 
 put-first-line-requires : tie.Need-put-first-line-requires
 put-first-line-requires c κs =
@@ -34,7 +34,7 @@ put-envelope-spec =
     tie.close
     (tie.spec
     put-envelope-place-requires
-    envelope-requires
+    meaning-requires
     put-first-line-requires
     same-length
     returns)

@@ -13,13 +13,13 @@ returns c =
     let l = c .before .before in
     let w = l .before in
     let p = w .before .before .before .before in
-    rw (w .policy .ensures) at (put-next (p .put-policy-place .ensures) (l .put-first-line .ensures))
+    rw (w .meaning .ensures) at (put-next (p .put-policy-place .ensures) (l .put-first-line .ensures))
 
 put-policy-place-requires : tie.Need-put-policy-place-requires
 put-policy-place-requires c κs = search needs
 
-policy-requires : tie.Need-policy-requires
-policy-requires c κs = search needs
+meaning-requires : tie.Need-meaning-requires
+meaning-requires c κs = search needs
 
 put-first-line-requires : tie.Need-put-first-line-requires
 put-first-line-requires c κs =
@@ -34,7 +34,7 @@ put-policy-spec =
     tie.close
     (tie.spec
     put-policy-place-requires
-    policy-requires
+    meaning-requires
     put-first-line-requires
     same-length
     returns)

@@ -2,7 +2,7 @@
 use mathlib.Core.Logic.{⊎-elim}
 use native.Mathlib.Omega.{arith}
 use Rattle.decimals.specs.Text.{bytesOf}
-use Rattle.refusals.proofs.Places.{record-short, policy-record, policy-before, policy-behind}
+use Rattle.refusals.proofs.Places.{record-short, policy-record, policy-before, policy-after}
 use borrow.Author.Needs.{needs}
 use Rattle.refusals.proofs.put_policy_place.Statement.{statement}
 use Rattle.refusals.proofs.put_policy_place.Tie as tie
@@ -20,7 +20,7 @@ returns-2 c =
     let p = c .before .before in
     let i = p .before .before .before in
     let a = i .before .before .args in
-    rw (⊎-elim (λ t. policy-before (a .number) (a .read) (t .taken)) (λ t. policy-behind (a .number) (a .read) (omega (arith, t .1 .left))) (i .if1 .came))
+    rw (⊎-elim (λ t. policy-before (a .number) (a .read) (t .taken)) (λ t. policy-after (a .number) (a .read) (omega (arith, t .1 .left))) (i .if1 .came))
     (p .put-bytes .ensures)
 
 slice-aggregate-put-record : tie.Need-slice-aggregate-put-record

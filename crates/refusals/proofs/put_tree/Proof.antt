@@ -12,7 +12,7 @@ returns c =
     let l = c .before .before in
     let w = l .before in
     let p = w .before .before .before .before in
-    rw (w .tree .ensures) at (put-next (p .put-bytes .ensures) (l .put-first-line .ensures))
+    rw (w .meaning .ensures) at (put-next (p .put-bytes .ensures) (l .put-first-line .ensures))
 
 slice-aggregate-put-bytes : tie.Need-slice-aggregate-put-bytes
 slice-aggregate-put-bytes c = search needs
@@ -20,8 +20,8 @@ slice-aggregate-put-bytes c = search needs
 put-bytes-requires : tie.Need-put-bytes-requires
 put-bytes-requires c κs = search needs
 
-tree-requires : tie.Need-tree-requires
-tree-requires c κs = search needs
+meaning-requires : tie.Need-meaning-requires
+meaning-requires c κs = search needs
 
 put-first-line-requires : tie.Need-put-first-line-requires
 put-first-line-requires c κs = search needs
@@ -35,7 +35,7 @@ put-tree-spec =
     (tie.spec
     slice-aggregate-put-bytes
     put-bytes-requires
-    tree-requires
+    meaning-requires
     put-first-line-requires
     same-length
     returns)

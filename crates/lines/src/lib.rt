@@ -1,0 +1,78 @@
+// What the verbs print, as bytes in a buffer.
+mod labels;
+
+pub use labels::put_labels;
+ghost use Prim.Native.Nat.{_+_, _*_, _≤_, _<_};
+ghost use lib.ListN.{length};
+ghost use Rattle.buffers.specs.Put.{Put};
+ghost use Rattle.lines.specs.Lines.{hexLine, fingerprintLine, optionLine, keyText, issuedText, leastLine, weighedText};
+
+// Writes bytes as a line of hexadecimal digits.
+pub fn put_hex(out: &mut [u8], at: usize, bytes: &[u8]) -> usize
+    requires { ⌜ (length (now bytes) ≤ 32) × (at + 2 * length (now bytes) < length (now out)) ⌝ }
+    ensures { λ r. ⌜ Put (now (out .entry)) (now (out .exit)) at (hexLine (now (bytes .entry))) r ⌝ }
+{
+    let mut digits = [0u8; 64];
+    let written = command::hex(bytes, &mut digits);
+    let length = written.length;
+    let end = buffers::put_bytes(out, at, &digits[..length]);
+    buffers::put_bytes(out, end, b"\n")
+}
+
+// Writes the line of a root secret's fingerprint.
+pub fn put_fingerprint(out: &mut [u8], at: usize, print: [u8; 8]) -> usize
+    requires { ⌜ at + 32 ≤ length (now out) ⌝ }
+    ensures { λ r. ⌜ Put (now (out .entry)) (now (out .exit)) at (fingerprintLine print) r ⌝ }
+{
+    let next = buffers::put_bytes(out, at, b"FINGERPRINT ");
+    put_hex(out, next, &print)
+}
+
+// Writes that line if it is asked for.
+fn put_option(out: &mut [u8], at: usize, print: [u8; 8], option: bool) -> usize
+    requires { ⌜ at + 32 ≤ length (now out) ⌝ }
+    ensures { λ r. ⌜ Put (now (out .entry)) (now (out .exit)) at (optionLine print option) r ⌝ }
+{
+    if option {
+        return put_fingerprint(out, at, print);
+    }
+    at
+}
+
+// Writes what `key` prints.
+pub fn put_key(out: &mut [u8], key: [u8; 32], print: [u8; 8], option: bool) -> usize
+    requires { ⌜ 128 ≤ length (now out) ⌝ }
+    ensures { λ r. ⌜ Put (now (out .entry)) (now (out .exit)) 0 (keyText key print option) r ⌝ }
+{
+    let end = put_hex(out, 0, &key);
+    put_option(out, end, print, option)
+}
+
+// Writes what `issue` prints.
+pub fn put_issued(out: &mut [u8], size: usize, print: [u8; 8], option: bool) -> usize
+    requires { ⌜ 128 ≤ length (now out) ⌝ }
+    ensures { λ r. ⌜ Put (now (out .entry)) (now (out .exit)) 0 (issuedText size print option) r ⌝ }
+{
+    let end = decimals::put_worded(out, 0, b"ISSUED", decimals::capped(size));
+    put_option(out, end, print, option)
+}
+
+// Writes whether no tree has a smaller total.
+fn put_least(out: &mut [u8], at: usize, least: bool) -> usize
+    requires { ⌜ at + 16 ≤ length (now out) ⌝ }
+    ensures { λ r. ⌜ Put (now (out .entry)) (now (out .exit)) at (leastLine least) r ⌝ }
+{
+    if least {
+        return buffers::put_bytes(out, at, b"LEAST yes\n");
+    }
+    buffers::put_bytes(out, at, b"LEAST no\n")
+}
+
+// Writes what `weigh` prints.
+pub fn put_weighed(out: &mut [u8], total: u32, least: bool) -> usize
+    requires { ⌜ 64 ≤ length (now out) ⌝ }
+    ensures { λ r. ⌜ Put (now (out .entry)) (now (out .exit)) 0 (weighedText total least) r ⌝ }
+{
+    let end = decimals::put_worded(out, 0, b"TOTAL", total);
+    put_least(out, end, least)
+}

@@ -1,0 +1,44 @@
+-- `policy_messages::tell_label` is safe: what stands before the first space lies within the name.
+use Prim.Native.Nat.{_≤_}
+use mathlib.Core.Path.{sym}
+use native.Mathlib.Omega.{arith}
+use lib.ListN.{length}
+use lib.Seq.{length-take-le}
+use Rattle.format.proofs.Padding.{unpadded-short}
+use borrow.Author.Needs.{needs}
+use Rattle.policy_messages.proofs.tell_label.Statement.{statement}
+use Rattle.policy_messages.proofs.tell_label.Tie as tie
+
+slice-aggregate-unpadded-length : tie.Need-slice-aggregate-unpadded-length
+slice-aggregate-unpadded-length c = search needs
+
+unpadded-length-requires : tie.Need-unpadded-length-requires
+unpadded-length-requires c κs = search needs
+
+array-share-prefix-label : tie.Need-array-share-prefix-label
+array-share-prefix-label c = let n = c .unpadded-length in
+    let name = c .before .before .before .before .args .t3 in
+    omega (arith, n .ensures, unpadded-short name)
+
+slice-aggregate-tell-named : tie.Need-slice-aggregate-tell-named
+slice-aggregate-tell-named c = let n = c .before .unpadded-length in
+    let name = c .before .before .before .before .before .args .t3 in
+    let h : n .result ≤ length name = omega (arith, n .ensures, unpadded-short name) in
+    sym (length-take-le (n .result) name h)
+
+tell-named-requires : tie.Need-tell-named-requires
+tell-named-requires c κs = search needs
+
+returns : tie.Need-returns
+returns c = search needs
+
+pub tell-label-spec : {M : Type 1} → statement M
+tell-label-spec =
+    tie.close
+    (tie.spec
+    slice-aggregate-unpadded-length
+    unpadded-length-requires
+    array-share-prefix-label
+    slice-aggregate-tell-named
+    tell-named-requires
+    returns)

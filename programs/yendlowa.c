@@ -1,0 +1,2 @@
+int yendlowa_program(void);
+int main(void) { return yendlowa_program(); }

@@ -84,12 +84,13 @@ all: lib programs
 
 lib: $(ARCHIVES) $(SHARED) $(HEADERS)
 
-programs: $(PROGRAMS) $(MANUALS)
+programs: build/obj/programs.proved $(PROGRAMS) $(MANUALS)
 
 help:
 	@sed -n 's/^## //p' Makefile
 
-# ---- objects: rt proves a crate anew each time that it makes an archive of it, so it is called only when a source has changed
+# ---- objects: 'rt check' proves the crates that a part reaches, several at a time and none twice; 'rt staticlib' then proves the part's own crate once
+# more, so it is called only when a source has changed
 
 # The crates that a crate reaches, itself the first: crates.txt has a line 'NAME: what it uses' for each.
 reached = $(shell awk -v crate=$1 ' \
@@ -100,11 +101,21 @@ reached = $(shell awk -v crate=$1 ' \
 # Their files, and their folders, so that a file that was removed counts.
 sources = $(shell find crates.txt $(wildcard $(addprefix crates/,$(call reached,$1))) -name must-fail -prune -o -print)
 
+# Proves crates, and tells each that is proved with its seconds: $(call proved,CRATES,LOG)
+proved = set -o pipefail; rt check $1 2>&1 | tee $2 | sed -un 's/^rt: \(.* proved ([0-9]* s)\)$$/  \1/p' || { cat $2; exit 1; }
+
 $(foreach part,$(PARTS),$(eval build/obj/$(part).o: $(call sources,$(part))))
 $(PARTS:%=build/obj/%.o): build/obj/%.o: | build/obj
 	@echo "proving and building $*"
+	@$(call proved,$*,build/obj/$*.log)
 	@rt staticlib $* >build/obj/$*.log 2>&1 || { cat build/obj/$*.log; exit 1; }
 	@cd build/obj && ar x ../../target/staticlib/lib$*.a $*.o
+
+# Both programs' crates at once, so that no core waits; a build of one program alone does not need this.
+build/obj/programs.proved: $(sort $(call sources,issuer_program) $(call sources,desk_program)) | build/obj
+	@echo "proving what the programs are made of"
+	@$(call proved,issuer_program desk_program,build/obj/programs.log)
+	@touch $@
 
 # ---- libraries
 

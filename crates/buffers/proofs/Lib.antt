@@ -1,3 +1,4 @@
 pub mod Writes
 pub mod Handed
 pub mod Unless
+pub mod Handing

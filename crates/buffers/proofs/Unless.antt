@@ -16,7 +16,7 @@ use Rattle.buffers.specs.Handed.{wrote, refusedWritten, handed, handedIn
 use Rattle.buffers.specs.declared.Written.{Written}
 use Rattle.buffers.proofs.Handed.{room-handed, handed-within, unless-none, unless-refused, unless-into, unless-left}
 
--- with room: the answer is the length, and the bytes stand at the buffer's start with all behind them as it was
+-- with room: the answer is the length, and the bytes stand at the buffer's start with all after them as it was
 module _ (refusal : ℕ) (none : refusal ≡ 0) (s : List ℕ) where
   pub unless-given : (room : ℕ) → length s ≤ room → writtenUnless refusal s room ≡ wrote (length s)
   unless-given room h = unless-none s room none ∙ room-handed s room h

@@ -16,7 +16,7 @@ unfolding pasted
 put-length {d} {e} {s} {at} {r} p =
     ap length (p .written) ∙ simp (length-append, length-drop) (omega (arith, length-take-le at d (omega (arith, p .fits)), p .fits))
 
--- two writes, the second straight behind the first
+-- two writes, the second straight after the first
 pub put-next : {d e f s t : List ℕ} {at q r : ℕ} → Put d e at s q → Put e f q t r → Put d f at (s ++ t) r
 put-next {d} {e} {f} {s} {t} {at} {q} {r} a b =
     let room : at + length s + length t ≤ length d = omega (arith, a .behind, b .fits, put-length a) in record {

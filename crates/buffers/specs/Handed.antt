@@ -19,7 +19,7 @@ refusedWritten number = record { refusal = number; zeros = replicate 7 0; length
 unfoldable pub handed : List ℕ → (room : ℕ) → Written
 handed s room = cond (leb (length s) room) (wrote (length s)) (refusedWritten 16)
 
--- s from the buffer's start and no byte behind it changed; nothing at all if there is no room
+-- s from the buffer's start and no byte after it changed; nothing at all if there is no room
 unfoldable pub handedInto : List ℕ → List ℕ → List ℕ
 handedInto s out = cond (leb (length s) (length out)) (pasted out 0 s) out
 

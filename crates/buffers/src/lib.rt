@@ -24,7 +24,7 @@ pub fn refuse(number: u8) -> Written
     }
 }
 
-// Writes bytes from `at` on, and answers the place behind them.
+// Writes bytes from `at` on, and answers the place after them.
 pub fn put_bytes(out: &mut [u8], at: usize, bytes: &[u8]) -> usize
     requires { ⌜ at + length (now bytes) ≤ length (now out) ⌝ }
     ensures { λ r. ⌜ Put (now (out .entry)) (now (out .exit)) at (now (bytes .entry)) r ⌝ }

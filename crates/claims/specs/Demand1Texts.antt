@@ -17,7 +17,7 @@ use Rattle.text.specs.Listing.{planText}
 pub record OfWritten (policy bytes : List ℕ) (answer : Written) (out after : List ℕ) : Type 0 where
   -- 01: "A refusal of the policy comes before any other in an operation that takes one, .. and only then those about .. buffers"
   pub policy-first : 0 < policyRefusal policy → answer .refusal ≡ policyRefusal policy
-  -- 16 for a buffer that is shorter than the bytes; with room they are written from its start, and no byte behind them changes
+  -- 16 for a buffer that is shorter than the bytes; with room they are written from its start, and no byte after them changes
   pub short : AcceptedPolicy policy → (answer .refusal ≡ 16) ↔ (length out < length bytes)
   pub given : AcceptedPolicy policy → length bytes ≤ length out → answer ≡ wrote (length bytes)
   pub left : AcceptedPolicy policy → length bytes ≤ length out → after ≡ bytes ++ drop (length bytes) out

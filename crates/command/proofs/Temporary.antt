@@ -9,7 +9,7 @@ use Rattle.buffers.specs.Handed.{wrote, refusedWritten, handed, handedInto}
 use Rattle.buffers.specs.Put.{Put}
 use Rattle.buffers.specs.declared.Written.{Written}
 use Rattle.command.specs.Typed.{temporaryName}
-use Rattle.command.proofs.Handing.{refused-handed, put-handed}
+use Rattle.buffers.proofs.Handing.{refused-handed, put-handed}
 
 abbrev pub signs : List ℕ
 signs = 46 ∷ 88 ∷ 88 ∷ 88 ∷ 88 ∷ 88 ∷ 88 ∷ []

@@ -1,3 +1,1 @@
 pub mod Typed
-pub mod Hex
-pub mod Shown

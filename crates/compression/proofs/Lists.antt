@@ -6,7 +6,7 @@ use native.Mathlib.Numerals.{add-one}
 use lib.ListN.{length, set, drop, length-append}
 use lib.Seq.{drop-cons, set-at}
 
--- a store behind what is filled already
+-- a store after what is filled already
 pub filled : (p d : List ℕ) (t x : ℕ) → length p ≡ t → t < length d → set (p ++ drop t d) t x ≡ (p ++ (x ∷ [])) ++ drop (t + 1) d
 filled p d t x e h =
     rw (add-one, drop-cons d t 0) (set-at p _ (drop (suc t) d) x t e ∙ sym (append-assoc p (x ∷ []) (drop (suc t) d)))

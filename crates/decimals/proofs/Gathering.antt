@@ -14,7 +14,7 @@ digit-stored digits i d h =
     let l : i < length (set digits i d) = omega (arith, length-set digits i d) in
     drop-cons (set digits i d) i 0 l ∙ rw (getD-set-same digits i d 0 h, drop-set-lt (suc i) digits i d (omega arith))
 
--- the digits behind place i are gathered, those of `rest` are to come
+-- the digits after place i are gathered, those of `rest` are to come
 pub record Gathered (x : ℕ) (digits : List ℕ) (i rest : ℕ) : Type 0 where
   pub place : i < 10
   pub small : rest < 10 ^ suc i

@@ -1,3 +1,4 @@
 pub mod Gathering
 pub mod Digits
 pub mod Worded
+pub mod Printed

@@ -87,7 +87,7 @@ pub fn derive(envelope: &[u8], name: &[u8]) -> Derived
     }
 }
 
-// The names of `records` records, one behind the other.
+// The names of `records` records, one after the other.
 fn read_names(envelope: &[u8], records: usize, starts: &[usize; 64]) -> [u8; 512]
     requires { ⌜ Located (now envelope) (now starts) records ⌝ }
     ensures { λ r. ⌜ r ≡ namesIn (now (envelope .entry)) records ⌝ }

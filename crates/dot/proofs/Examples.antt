@@ -9,8 +9,7 @@ use Rattle.policy_file.proofs.Examples.{E}
 use Rattle.policy_file.specs.File.{nameOf, countOf}
 use Rattle.policy_file.specs.Whole.{policyOf}
 use Rattle.decimals.specs.Decimal.{digitsBefore, decimal}
-use Rattle.decimals.specs.Worded.{worded, refusedText}
-use Rattle.text.specs.Printed.{printedUnless}
+use Rattle.decimals.specs.Worded.{worded, refusedText, printedUnless}
 use Rattle.dot.specs.Answer.{printedDrawing}
 use Rattle.dot.specs.Drawing.{between, field, fields, node, edge, drawn, ending, drawing, dotText}
 

@@ -9,7 +9,8 @@ use Rattle.policy_file.proofs.Front.{Agree}
 use Rattle.policy_file.specs.Whole.{policyRefusal}
 use Rattle.plan_answers.specs.declared.Plan.{Plan}
 use Rattle.text.proofs.Front.{front-same}
-use Rattle.text.proofs.Printed.{printed-short, printed-same}
+use Rattle.decimals.proofs.Printed.{printed-short}
+use Rattle.text.proofs.Printed.{printed-same}
 use Rattle.text.specs.Printable.{Printable}
 use Rattle.dot.specs.Answer.{printedDrawing}
 use Rattle.dot.specs.Drawing.{between, node, edge, drawn, drawing, dotText}

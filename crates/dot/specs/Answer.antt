@@ -4,7 +4,7 @@ use mathlib.Core.List.{List}
 use Rattle.buffers.specs.Handed.{writtenUnless, bufferUnless}
 use Rattle.buffers.specs.declared.Written.{Written}
 use Rattle.policy_file.specs.Whole.{policyRefusal}
-use Rattle.text.specs.Printed.{printedUnless}
+use Rattle.decimals.specs.Worded.{printedUnless}
 use Rattle.dot.specs.Drawing.{dotText}
 
 -- the drawing is handed out unless the policy is refused: "A refusal of the policy comes before any other"

@@ -20,7 +20,7 @@ fn refused_contents(number: u8) -> Contents
     }
 }
 
-// All records from the first on, behind a header of 12 bytes; with a refusal those before the refused one.
+// All records from the first on, after a header of 12 bytes; with a refusal those before the refused one.
 fn read_records(envelope: &[u8]) -> Contents
     requires { ⌜ 12 ≤ length (now envelope) ⌝ }
     ensures { λ r. ⌜ (settled r ≡ scanFrom 65 (now (envelope .entry)) nothingRead) × (r .records ≡ countFrom 65 (now (envelope .entry)) 0) ⌝ }

@@ -29,7 +29,7 @@ module _ (file : List ℕ) where
       ∙ count-comes before (suc (64 - k)) (omega (arith, records-bound before))
       ∙ count-kind (64 - k) file k (kind-of file k r)
 
-  -- no record behind a header that is refused
+  -- no record after a header that is refused
   pub read-none : NoHeader file → envelopeRecordsRead file ≡ 0
   read-none h = none-counted file (λ e. omega (arith, no-header file h))
 

@@ -98,7 +98,7 @@ module _ (file : List ℕ) (k : ℕ) where
   name-refused (inl w) {n} h e = at-held w ∙ rw (e, ne-eqb n 0 (λ z. omega arith))
   name-refused (inr w) {n} h e = at-under w ∙ rw (e, ne-eqb n 0 (λ z. omega arith))
 
-  -- the tests behind the name
+  -- the tests after the name
   held-later : WholeHeld file k → Named file k → 0 < k → envelopeKind file k ≡ Held
   unfolding heldKind
   held-later w n later = at-held w ∙ rw (name-passes n, ne-eqb k 0 (λ z. omega arith))

@@ -1,4 +1,4 @@
--- Laws of the names of an envelope's records, one behind the other.
+-- Laws of the names of an envelope's records, one after the other.
 use Prim.Native.Nat.{ℕ, _+_, _*_, _/_, _%_, _≤_, _<_}
 use mathlib.Core.List.{List}
 use mathlib.Core.Path.{_≡_, sym, ap, ap₂, _∙_}

@@ -43,7 +43,7 @@ module _ (file : List ℕ) where
     unfolding headRefusal
     head-passed e z = rw (le-ltb (length file) 12 long, e, ne-eqb (accountIn file) 0 z)
 
-  -- behind a header that is not refused the first record starts
+  -- after a header that is not refused the first record starts
   pub head-long : headRefusal file ≡ 0 → 12 ≤ length file
   head-long e = go (decLe 12 (length file))
     where
@@ -75,7 +75,7 @@ settled-refused read some = rw (ne-eqb (read .refusal) 0 some)
 pub settled-read : (read : Contents) → read .refusal ≡ 0 → settled read ≡ read
 settled-read read none = ap (λ (b : Bool). cond b read (refused (read .refusal))) (eq-eqb (read .refusal) 0 none)
 
--- one record more, behind what is read so far
+-- one record more, after what is read so far
 module _ (n : ℕ) (file : List ℕ) (read : Contents) where
   pub scan-kind : {kind : Kind} → envelopeKind file (read .records) ≡ kind → scanFrom (suc n) file read ≡ onEnvelopeKind (scanFrom n file) file read kind
   unfolding scanFrom
@@ -90,7 +90,7 @@ count-kind n file k e = rw e
 abbrev soFar : ℕ → List ℕ → List ℕ → Contents
 soFar records starts places = record { refusal = 0; records = records; starts = starts; places = places }
 
--- what holds behind so many records: they lie within the file, the table says where each starts, and answer and count are those of the rest
+-- what holds after so many records: they lie within the file, the table says where each starts, and answer and count are those of the rest
 pub record Reading (file starts places : List ℕ) (records at : ℕ) : Type 0 where
   pub few : records ≤ 64
   pub here : at ≡ startOf file records

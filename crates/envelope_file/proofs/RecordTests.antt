@@ -69,7 +69,7 @@ module _ (file : List ℕ) (k : ℕ) where
       unfolding underKind
       under-read h = rw (named, ne-eqb k 0 later, lt-leb k (placeIn file k) h)
 
-  -- the record behind k others
+  -- the record after k others
   abbrev pub left : ℕ
   left = length file - startOf file k
 

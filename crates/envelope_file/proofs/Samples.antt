@@ -70,7 +70,7 @@ pub starts : map contentsOf (chain ∷ both ∷ [])
 unfolding sameBytes classOf padding formed someNoSpace wellFormed firstFrom headName startOf isHeld nameIn placeIn carries recordNamed nameRefusal heldKind underKind markedKind envelopeKind headRefusal scanFrom contentsOf
 starts = refl
 
--- how many records are read: none behind a header that is refused, none before a first that is refused, one before a second, three before a fourth, or all
+-- how many records are read: none after a header that is refused, none before a first that is refused, one before a second, three before a fourth, or all
 pub counts : map envelopeRecordsRead
     (header 0 (name 65) ∷ bare ∷ (bare ++ holds gap 7) ∷ (single ++ stands (name 65) 0) ∷ (chain ++ (75 ∷ [])) ∷ both ∷ [])
     ≡ 0 ∷ 0 ∷ 0 ∷ 1 ∷ 3 ∷ 4 ∷ []

@@ -85,7 +85,7 @@ module _ (file places : List ℕ) (records : ℕ) (table : Placed file places re
       go true h = absurd (d (table .own k l h))
       go false h = refl
 
-  -- and never behind it
+  -- and never after it
   pub place-bound : getD places k 0 ≤ k
   place-bound = go (isHeld file k) refl
     where

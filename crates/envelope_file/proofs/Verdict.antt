@@ -19,7 +19,7 @@ row-number (row-7 r) = (omega arith, λ e. omega arith)
 row-number (row-18 r) = (omega arith, λ e. omega arith)
 row-number (row-19 r) = (omega arith, λ e. omega arith)
 
--- they stand in the list of numbers, each behind those before it
+-- they stand in the list of numbers, each after those before it
 past : {n m : ℕ} {l : List ℕ} → List·Memᴰ n l → List·Memᴰ n (m ∷ l)
 past = List·Memᴰ·tail
 

@@ -24,7 +24,7 @@ heldAt file at = sameBytes (bytesAt file at 2) KS
 abbrev pub recordSize : Bool → ℕ
 recordSize held = cond held 42 11
 
--- where record k starts: the first behind the header, each other one behind the one before
+-- where record k starts: the first after the header, each other one after the one before
 unfoldable pub startOf : List ℕ → ℕ → ℕ
 startOf file zero = 12
 startOf file (suc k) = let at = startOf file k in at + recordSize (heldAt file at)

@@ -9,11 +9,11 @@ use Rattle.envelope_file.specs.File.{accountIn, nameIn}
 use Rattle.envelope_file.specs.Whole.{envelopeRefusal, recordsOf}
 use Rattle.envelope_file.specs.declared.Labels.{Labels}
 
--- the names one behind the other, 8 bytes each: byte i of them all is byte i % 8 of the name of record i / 8
+-- the names one after the other, 8 bytes each: byte i of them all is byte i % 8 of the name of record i / 8
 unfoldable pub nameByte : List ℕ → ℕ → ℕ
 nameByte file i = getD (nameIn file (i / 8)) (i % 8) 0
 
--- the names of so many records in 512 bytes, with zeros behind them
+-- the names of so many records in 512 bytes, with zeros after them
 abbrev pub namesIn : List ℕ → ℕ → List ℕ
 namesIn file records = filled 512 0 (nameByte file) (8 * records)
 

@@ -1,4 +1,4 @@
--- One record of an envelope, read behind k others: one that holds a secret, one that stands under the record at a place, the end of the
+-- One record of an envelope, read after k others: one that holds a secret, one that stands under the record at a place, the end of the
 -- file or a refusal. Refusals in the order of 01's table: 2, 3, 5, 6 and 7 at any record, 18 at the first, 19 at `KD`.
 use Prim.Native.Nat.{ℕ, _-_}
 use mathlib.Core.Bool.{cond, not}

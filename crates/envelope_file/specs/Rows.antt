@@ -120,7 +120,7 @@ pub data EnvelopePasses (file : List ℕ) : ℕ → Type 0 where
   start : EnvelopePasses file 0
   next : {k : ℕ} → EnvelopePasses file k → RecordAt file k → EnvelopePasses file (k + 1)
 
--- no row refuses the file, which ends behind so many records
+-- no row refuses the file, which ends after so many records
 pub record NoneRefuses (file : List ℕ) (records : ℕ) : Type 0 where
   pub header : Header file
   pub passes : EnvelopePasses file records

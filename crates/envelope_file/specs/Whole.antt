@@ -37,7 +37,7 @@ withRecord file read place = record {
   places = set (read .places) (read .records) place;
 }
 
--- "a definition gives this paper's number and values for each of the enum's cases": behind what is read so far, a record is kept with the place
+-- "a definition gives this paper's number and values for each of the enum's cases": after what is read so far, a record is kept with the place
 -- that it gives and the rest read; one that holds its secret is kept with its own place, as no other can be. The end is the file's, and
 -- "The first refused record refuses its whole file".
 abbrev pub onEnvelopeKind : (Contents → Contents) → List ℕ → Contents → Kind → Contents
@@ -46,7 +46,7 @@ onEnvelopeKind rest file read (Under place) = rest (withRecord file read place)
 onEnvelopeKind rest file read End = read
 onEnvelopeKind rest file read (Refused number) = refused number
 
--- the answer behind what is read so far, for up to n records more
+-- the answer after what is read so far, for up to n records more
 unfoldable pub scanFrom : ℕ → List ℕ → Contents → Contents
 scanFrom zero file read = refused 5
 scanFrom (suc n) file read = onEnvelopeKind (scanFrom n file) file read (envelopeKind file (read .records))

@@ -30,7 +30,7 @@ pub struct Derived {
     pub applications: u8,
 }
 
-// The account and the labels of an envelope: 8 bytes of name for each record, in the envelope's order, and zeros behind them; zeros with a refusal.
+// The account and the labels of an envelope: 8 bytes of name for each record, in the envelope's order, and zeros after them; zeros with a refusal.
 #[repr(C)]
 pub struct Labels {
     pub refusal: u8,

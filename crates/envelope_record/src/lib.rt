@@ -1,4 +1,4 @@
-// One record of a key envelope, read behind the records before it.
+// One record of a key envelope, read after the records before it.
 use envelope_file::Kind;
 use format::Found;
 use format::KD;
@@ -29,7 +29,7 @@ pub fn find_record(envelope: &[u8], records: usize, starts: &[usize; 64], name: 
     found
 }
 
-// The number that the name of the record behind `records` others is refused under, 0 when it is not.
+// The number that the name of the record after `records` others is refused under, 0 when it is not.
 fn name_refusal(envelope: &[u8], records: usize, starts: &[usize; 64], at: usize) -> u8
     requires { ⌜ Located (now envelope) (now starts) records × (at ≡ startOf (now envelope) records) × (at + 11 ≤ length (now envelope)) ⌝ }
     ensures { λ r. ⌜ r ≡ nameRefusal (now (envelope .entry)) records ⌝ }
@@ -47,7 +47,7 @@ fn name_refusal(envelope: &[u8], records: usize, starts: &[usize; 64], at: usize
     }
 }
 
-// The whole `KS` record behind `records` others; the first carries the header's name.
+// The whole `KS` record after `records` others; the first carries the header's name.
 fn read_held(envelope: &[u8], records: usize, starts: &[usize; 64], at: usize) -> Kind
     requires { ⌜ Located (now envelope) (now starts) records × (at ≡ startOf (now envelope) records) × (at + 42 ≤ length (now envelope)) ⌝ }
     ensures { λ r. ⌜ r ≡ heldKind (now (envelope .entry)) records ⌝ }
@@ -65,7 +65,7 @@ fn read_held(envelope: &[u8], records: usize, starts: &[usize; 64], at: usize) -
     Kind::Held
 }
 
-// The whole `KD` record behind `records` others; it is not the first, and its place is less than its own.
+// The whole `KD` record after `records` others; it is not the first, and its place is less than its own.
 fn read_under(envelope: &[u8], records: usize, starts: &[usize; 64], at: usize) -> Kind
     requires { ⌜ Located (now envelope) (now starts) records × (at ≡ startOf (now envelope) records) × (at + 11 ≤ length (now envelope)) ⌝ }
     ensures { λ r. ⌜ r ≡ underKind (now (envelope .entry)) records ⌝ }
@@ -84,7 +84,7 @@ fn read_under(envelope: &[u8], records: usize, starts: &[usize; 64], at: usize) 
     Kind::Under(place)
 }
 
-// The record behind `records` others, which starts at `at`.
+// The record after `records` others, which starts at `at`.
 pub fn read_record(envelope: &[u8], records: usize, starts: &[usize; 64], at: usize) -> Kind
     requires { ⌜ Located (now envelope) (now starts) records × (at ≡ startOf (now envelope) records) × (at ≤ length (now envelope)) ⌝ }
     ensures { λ r. ⌜ r ≡ envelopeKind (now (envelope .entry)) records ⌝ }

@@ -1,4 +1,4 @@
--- An envelope as it is written: its header, and each record behind those of the labels before. The desk finds the record of label m, if m is
+-- An envelope as it is written: its header, and each record after those of the labels before. The desk finds the record of label m, if m is
 -- at or below l, as its record number `placeBelow le l m`.
 use Prim.Native.Nat.{ℕ, zero, suc, _+_, _/_, _%_, _≤_, _<_}
 use mathlib.Core.Bool.{Bool, true, false, cond}
@@ -125,7 +125,7 @@ module _ {n : ℕ} {R : ℕ → ℕ → Type 0} {le : ℕ → ℕ → Bool} {nam
       go true = refl
       go false = refl
 
-  -- where the desk finds them: the record at label m's place starts behind those of the labels before m
+  -- where the desk finds them: the record at label m's place starts after those of the labels before m
   pub starts : (m : ℕ) → m ≤ n → startOf file (placeBelow le l m) ≡ 12 + length (records m)
   unfolding startOf placeBelow recordsBelow
   starts zero h = refl
@@ -144,7 +144,7 @@ module _ {n : ℕ} {R : ℕ → ℕ → Type 0} {le : ℕ → ℕ → Bool} {nam
           ∙ ih
           ∙ ap (λ (s : List ℕ). 12 + length s) (sym (records-skip name le parent root l m e))
 
-  -- the file ends behind the last record
+  -- the file ends after the last record
   pub file-length : length file ≡ 12 + length (records n)
   unfolding envelopeOf
   file-length = omega (arith, length-append head (records n), head-length)

@@ -1,12 +1,9 @@
-// A program's arguments, and files read into a buffer. What fails is told on standard error.
+// Standard streams kept, and files read into a buffer. What fails is told on standard error.
 use libc::STDERR_FILENO;
 use libc::STDIN_FILENO;
-ghost use mathlib.Core.Bool.{true, false};
-ghost use mathlib.Core.Logic.{_↔_};
+ghost use mathlib.Core.Bool.{false};
 ghost use mathlib.Core.Path.{_≡_};
-ghost use Rattle.format.specs.Bytes.{sameBytes};
 ghost use Rattle.io.specs.Counts.{Counts};
-ghost use Rattle.files.specs.Asked.{AsksHelp};
 
 // How many bytes of a file stand at the start of a buffer. Where it could not be read, it is not ok.
 pub struct Read {
@@ -39,61 +36,6 @@ fn release(fd: i32) {
     if STDERR_FILENO < fd {
         libc::close(fd);
     }
-}
-
-// Puts argument i at the start of the buffer, as much of it as the buffer holds, and answers how many bytes that is.
-pub fn argument(i: usize, buffer: &mut [u8]) -> usize
-    ensures { λ r. ⌜ Counts r (now (buffer .exit)) ⌝ }
-{
-    let length = os::arg(i, buffer);
-    if os::errno() == libc::ENAMETOOLONG {
-        return buffer.len();
-    }
-    length
-}
-
-// Whether argument i is this word.
-pub fn is_argument(i: usize, word: &[u8]) -> bool {
-    let mut typed = io::buffer();
-    let length = argument(i, &mut typed);
-    check::same(&typed[..length], word)
-}
-
-// Whether a word is another.
-pub fn is_word(typed: &[u8], word: &[u8]) -> bool
-    ensures { λ r. ⌜ r ≡ sameBytes (now (typed .entry)) (now (word .entry)) ⌝ }
-{
-    check::same(typed, word)
-}
-
-// Whether the word that was typed asks how the program is called.
-pub fn asks_help(typed: &[u8]) -> bool
-    ensures { λ r. ⌜ (r ≡ true) ↔ AsksHelp (now (typed .entry)) ⌝ }
-{
-    if check::same(typed, b"help") {
-        return true;
-    }
-    if check::same(typed, b"--help") {
-        return true;
-    }
-    check::same(typed, b"-h")
-}
-
-// Puts the label name that argument i says at the start of the buffer, padded as the operations take it.
-pub fn name_argument(i: usize, name: &mut [u8]) -> usize
-    ensures { λ r. ⌜ Counts r (now (name .exit)) ⌝ }
-{
-    let mut typed = io::buffer();
-    let length = argument(i, &mut typed);
-    let padded = command::pad_name(&typed[..length], name);
-    padded.length
-}
-
-// Tells why argument i is refused.
-pub fn tell_argument(program: &[u8], i: usize, number: u8) {
-    let mut typed = io::buffer();
-    let length = argument(i, &mut typed);
-    messages::tell_named(program, b"", &typed[..length], number);
 }
 
 // A file that could not be opened or read.
@@ -164,17 +106,17 @@ pub fn read_argument(program: &[u8], i: usize, buffer: &mut [u8]) -> Read
     ensures { λ r. ⌜ Counts (r .length) (now (buffer .exit)) ⌝ }
     ensures { λ r. ⌜ (r .ok ≡ false → r .length ≡ 0) ⌝ }
 {
-    if is_argument(i, b"-") {
+    if arguments::is_argument(i, b"-") {
         return read_input(program, buffer);
     }
     let mut path = io::buffer();
-    let length = argument(i, &mut path);
+    let length = arguments::argument(i, &mut path);
     read_file(program, &path[..length], buffer)
 }
 
 // Whether both arguments name standard input, which is then told.
 fn twice_input(program: &[u8], i: usize, j: usize) -> bool {
-    if is_argument(i, b"-") && is_argument(j, b"-") {
+    if arguments::is_argument(i, b"-") && arguments::is_argument(j, b"-") {
         messages::tell_line(
             program,
             b"'-' is given twice, and standard input can be read only once",

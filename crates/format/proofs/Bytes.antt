@@ -126,7 +126,7 @@ pub front-bytes : (front back : List ℕ) (at n : ℕ) → at + n ≤ length fro
 front-bytes front back at n h =
     rw (drop-append-le at front back (omega arith), take-append-le n (drop at front) back (simp length-drop (omega arith)))
 
--- an answer that the bytes behind so long a front part do not change is that of any such part
+-- an answer that the bytes after so long a front part do not change is that of any such part
 pub fronted : {A : Type 0} (bound : ℕ) (f : List ℕ → A) → ((front back : List ℕ) → bound ≤ length front → f (front ++ back) ≡ f front)
     → (n : ℕ) → bound ≤ n → (s : List ℕ) → f s ≡ f (take n s)
 fronted bound f same n enough s = go (decLe (length s) n)

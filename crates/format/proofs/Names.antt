@@ -9,7 +9,7 @@ use Rattle.format.specs.Names.{classOf, isSpace, padding, formedBy, form
 use Rattle.format.specs.declared.Class.the-variants.{Space, Refused}
 use Rattle.format.specs.declared.Class.{Class}
 
--- what is left to ask of the rest of a name, behind bytes of which some are no spaces, and the last are spaces
+-- what is left to ask of the rest of a name, after bytes of which some are no spaces, and the last are spaces
 unfoldable pub restFormed : Bool → Bool → List ℕ → Bool
 restFormed some padded l = cond padded (padding l) (formed l) && (some || someNoSpace l)
 

@@ -25,7 +25,7 @@ unfoldable pub padding : List ℕ → Bool
 padding [] = true
 padding (b ∷ bs) = isSpace (classOf b) && padding bs
 
--- a byte that starts a name's rest is a letter or a digit, or a space with spaces only behind it
+-- a byte that starts a name's rest is a letter or a digit, or a space with spaces only after it
 abbrev pub formedBy : Class → Bool → Bool → Bool
 formedBy Letter rest pad = rest
 formedBy Digit rest pad = rest

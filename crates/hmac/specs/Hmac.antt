@@ -8,7 +8,7 @@ use lib.ListN.{length}
 use Rattle.lists.specs.Buffer.{zeroFilled}
 use Rattle.sha256.specs.Sha256.{hash}
 
--- K0: the key, or its hash if it is longer than a block, with zeros behind it up to 64 bytes (table 1, steps 1 to 3)
+-- K0: the key, or its hash if it is longer than a block, with zeros after it up to 64 bytes (table 1, steps 1 to 3)
 unfoldable pub keyBlock : List ℕ → List ℕ
 keyBlock key = zeroFilled 64 (cond (leb (length key) 64) key (hash key))
 

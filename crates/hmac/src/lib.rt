@@ -8,7 +8,7 @@ ghost use Rattle.hmac.specs.Hmac.{keyBlock, masked, hmac};
 ghost use Rattle.hmac.specs.HmacAnswer.{hmacOf};
 ghost use Rattle.hmac.specs.Secrets.{F, childSecret, labelKey};
 
-// Bytes of a block, with zeros behind them.
+// Bytes of a block, with zeros after them.
 fn zero_filled(bytes: &[u8]) -> [u8; 64]
     requires { ⌜ length (now bytes) ≤ 64 ⌝ }
     ensures { λ r. ⌜ r ≡ zeroFilled 64 (now (bytes .entry)) ⌝ }

@@ -1,60 +1,13 @@
-// The issuer's keys, and key envelopes written for accounts of a policy.
+// Key envelopes written for accounts of a policy.
 use buffers::Written;
 use format::Found;
-use issuer_answers::IssuerKey;
 ghost use mathlib.Core.Path.{_≡_};
 ghost use Prim.Native.Nat.{_+_, _*_, _≤_, _<_};
 ghost use lib.ListN.{length};
 ghost use Rattle.buffers.specs.Handed.{handed, handedInto};
 ghost use Rattle.secrets.specs.Asks.{Hung};
 ghost use Rattle.writer.specs.Tabled.{tableEnvelope};
-ghost use Rattle.issuer_answers.specs.Keys.{labelAsked, refusedKey, issuerKeyOf};
 ghost use Rattle.issuer_answers.specs.Issue.{accountRefusal, issuedOf, envelopeAfter};
-
-// The label that has the name asked for; none if that has not 8 bytes.
-fn asked_label(policy: &[u8], labels: usize, name: &[u8]) -> Found
-    requires { ⌜ 12 * labels ≤ length (now policy) ⌝ }
-    ensures { λ r. ⌜ r ≡ labelAsked (now (policy .entry)) labels (now (name .entry)) ⌝ }
-{
-    if name.len() != 8 {
-        return Found::Nothing;
-    }
-    policy_record::find_name(policy, labels, format::read_name(name, 0))
-}
-
-// The answer of `issuer_key` with a refusal.
-fn refuse_key(number: u8) -> IssuerKey
-    ensures { λ r. ⌜ r ≡ refusedKey number ⌝ }
-{
-    IssuerKey {
-        refusal: number,
-        key: [0u8; 32],
-    }
-}
-
-// The issuer's own key for the label asked for.
-pub fn issuer_key(policy: &[u8], name: &[u8], root: &[u8]) -> IssuerKey
-    ensures { λ r. ⌜ r ≡ issuerKeyOf (now (policy .entry)) (now (name .entry)) (now (root .entry)) ⌝ }
-{
-    let plan = planner::plan_policy(policy);
-    if plan.refusal != 0 {
-        return refuse_key(plan.refusal);
-    }
-    match asked_label(policy, plan.labels, name) {
-        Found::At(l) => {
-            if root.len() != 32 {
-                return refuse_key(15);
-            }
-            let parents = plan.parents;
-            let secret = secrets::secret_of(policy, &parents, format::read_secret(root, 0), l);
-            IssuerKey {
-                refusal: 0,
-                key: hmac::label_key(secret, format::read_name(policy, 12 * l + 2)),
-            }
-        }
-        Found::Nothing => refuse_key(13),
-    }
-}
 
 // The number that an account of label `l` or the root secret is refused under, 0 when they are not.
 fn account_refusal(policy: &[u8], l: usize, account: u32, root: &[u8]) -> u8
@@ -110,7 +63,7 @@ pub fn issue(policy: &[u8], name: &[u8], account: u32, root: &[u8], envelope: &m
     if planned.refusal != 0 {
         return buffers::refuse(planned.refusal);
     }
-    match asked_label(policy, planned.labels, name) {
+    match issuer_keys::asked_label(policy, planned.labels, name) {
         Found::At(l) => {
             let number = account_refusal(policy, l, account, root);
             if number != 0 {

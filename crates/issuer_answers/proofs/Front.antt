@@ -185,7 +185,7 @@ module _ (policy name : List ℕ) where
       go (yes ok) = asked-says ok (asked-either policy name ok)
       go (no bad) = (policyRefusal policy, λ root other. issue-policy policy name account root (omega arith))
 
--- a root secret of at least 33 bytes, and one that goes on behind it
+-- a root secret of at least 33 bytes, and one that goes on after it
 module _ (policy name front back : List ℕ) (long : 33 ≤ length front) where
   not-whole : length (front ++ back) ≢ 32
   not-whole e = omega (arith, length-append front back)

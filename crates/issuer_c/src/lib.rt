@@ -12,7 +12,7 @@ ghost use Rattle.issuer_answers.specs.Issue.{issuedOf, envelopeAfter};
 pub extern "C" fn yendlowa_issuer_key(policy: &[u8], name: &[u8], root: &[u8]) -> IssuerKey
     ensures { λ r. ⌜ r ≡ issuerKeyOf (now (policy .entry)) (now (name .entry)) (now (root .entry)) ⌝ }
 {
-    issuer::issuer_key(policy, name, root)
+    issuer_keys::issuer_key(policy, name, root)
 }
 
 #[no_mangle]

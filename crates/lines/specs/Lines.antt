@@ -2,7 +2,7 @@
 use Prim.Native.Nat.{ℕ, _*_}
 use mathlib.Core.Bool.{Bool, cond}
 use mathlib.Core.List.{List, [], _++_}
-use Rattle.command.specs.Hex.{hexOf}
+use Rattle.shown.specs.Hex.{hexOf}
 use Rattle.decimals.specs.Decimal.{capped}
 use Rattle.decimals.specs.Text.{bytesOf}
 use Rattle.decimals.specs.Worded.{worded, newline}

@@ -13,7 +13,7 @@ pub fn put_hex(out: &mut [u8], at: usize, bytes: &[u8]) -> usize
     ensures { λ r. ⌜ Put (now (out .entry)) (now (out .exit)) at (hexLine (now (bytes .entry))) r ⌝ }
 {
     let mut digits = [0u8; 64];
-    let written = command::hex(bytes, &mut digits);
+    let written = shown::hex(bytes, &mut digits);
     let length = written.length;
     let end = buffers::put_bytes(out, at, &digits[..length]);
     buffers::put_bytes(out, end, b"\n")

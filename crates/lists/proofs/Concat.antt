@@ -1,4 +1,4 @@
--- Lists one behind the other: lengths, and equal functions.
+-- Lists one after the other: lengths, and equal functions.
 use Prim.Native.Nat.{ℕ, zero, suc, _+_, _*_, _≤_, _<_}
 use mathlib.Core.List.{List}
 use mathlib.Core.Logic.{⊎-elim}
@@ -9,7 +9,7 @@ use lib.ListN.{length, length-append}
 use Rattle.lists.specs.Tables.{concatBelow}
 
 module _ (f : ℕ → List ℕ) where
-  -- each fits behind those before it
+  -- each fits after those before it
   pub concat-fit : (n m : ℕ) → m < n → length (concatBelow f m) + length (f m) ≤ length (concatBelow f n)
   unfolding concatBelow
   concat-fit zero m h = absurd (omega arith)

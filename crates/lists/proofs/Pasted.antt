@@ -9,7 +9,7 @@ use lib.ListN.{length, set, take, drop, replicate, length-append, length-take, l
 use lib.Seq.{sets-eq, take-at, drop-at, take-length, length-take-le, drop-append-add, drop-drop}
 use Rattle.lists.specs.Buffer.{pasted, zeroFilled}
 
--- stores one behind the other are a paste
+-- stores one after the other are a paste
 pub pasted-one : (d : List ℕ) (at a : ℕ) → at + 1 ≤ length d → set d at a ≡ pasted d at (a ∷ [])
 unfolding pasted
 pasted-one d at a h = sets-eq (a ∷ []) d at h
@@ -85,7 +85,7 @@ unfolding zeroFilled
 zero-filled-length n s h = omega (arith, length-append s (zeros (n - length s)), length-zeros (n - length s))
 
 module _ (n : ℕ) where
-  -- bytes written j places behind the last: j zeros stay between
+  -- bytes written j places after the last: j zeros stay between
   pub pasted-behind : (p s : List ℕ) (j at : ℕ) → at ≡ length p + j → at + length s ≤ n
       → pasted (zeroFilled n p) at s ≡ zeroFilled n ((p ++ replicate j 0) ++ s)
   unfolding zeroFilled
@@ -107,7 +107,7 @@ module _ (n : ℕ) where
       ∙ pasted-middle q z (zeros k) s (length-zeros (length s))
       ∙ ap (λ (i : ℕ). (q ++ s) ++ zeros i) (sym back)
 
-  -- bytes written straight behind the last
+  -- bytes written straight after the last
   pub pasted-next : (p s : List ℕ) (at : ℕ) → at ≡ length p → at + length s ≤ n → pasted (zeroFilled n p) at s ≡ zeroFilled n (p ++ s)
   pasted-next p s at e h = pasted-behind p s 0 at (omega arith) h ∙ rw append-nil
 

@@ -7,6 +7,6 @@ use lib.ListN.{length, take, drop, replicate}
 unfoldable pub pasted : List ℕ → ℕ → List ℕ → List ℕ
 pasted d at s = take at d ++ s ++ drop (at + length s) d
 
--- s, and zeros behind it up to n bytes
+-- s, and zeros after it up to n bytes
 unfoldable pub zeroFilled : ℕ → List ℕ → List ℕ
 zeroFilled n s = s ++ replicate (n - length s) 0

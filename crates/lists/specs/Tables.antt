@@ -19,11 +19,11 @@ unfoldable pub listed : {A : Type 0} → (ℕ → A) → ℕ → List A
 listed f zero = []
 listed f (suc n) = listed f n ++ (f n ∷ [])
 
--- the same in `size` places, with z behind them
+-- the same in `size` places, with z after them
 abbrev pub filled : {A : Type 0} → ℕ → A → (ℕ → A) → ℕ → List A
 filled size z f n = listed f n ++ replicate (size - n) z
 
--- the lists f 0, f 1, .. up to n of them, one behind the other
+-- the lists f 0, f 1, .. up to n of them, one after the other
 unfoldable pub concatBelow : (ℕ → List ℕ) → ℕ → List ℕ
 concatBelow f zero = []
 concatBelow f (suc n) = concatBelow f n ++ f n

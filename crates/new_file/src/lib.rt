@@ -64,26 +64,31 @@ fn make(program: &[u8], path: &[u8], bytes: &[u8]) -> bool {
 }
 
 // Makes a file with these bytes, never over one that exists. The name is taken first, by an empty file, and the whole file is moved
-// over that. Where something fails nothing is left. Which of the two it is depends on the file system, of which no contract speaks.
-pub fn save(program: &[u8], path: &[u8], bytes: &[u8]) -> Saved
-    ensures { λ r. ⌜ r .length ≡ cond (r .ok) (length (now (bytes .entry))) 0 ⌝ }
-{
+// over that. Where something fails nothing is left.
+fn make_new(program: &[u8], path: &[u8], bytes: &[u8]) -> bool {
     let taken = os::create(path);
     if taken < 0 {
         messages::file_failed(program, path);
-        return Saved {
-            ok: false,
-            length: 0,
-        };
+        return false;
     }
     libc::close(taken);
     if make(program, path, bytes) {
+        return true;
+    }
+    os::unlink(path);
+    false
+}
+
+// Saves bytes in a new file. Whether that is made depends on the file system, of which no contract speaks.
+pub fn save(program: &[u8], path: &[u8], bytes: &[u8]) -> Saved
+    ensures { λ r. ⌜ r .length ≡ cond (r .ok) (length (now (bytes .entry))) 0 ⌝ }
+{
+    if make_new(program, path, bytes) {
         return Saved {
             ok: true,
             length: bytes.len(),
         };
     }
-    os::unlink(path);
     Saved {
         ok: false,
         length: 0,

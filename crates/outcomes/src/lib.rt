@@ -1,34 +1,55 @@
-// How a call of a program ends, and the exit status that a script sees.
+// How a call of a program ended, and the exit status that a script sees.
+ghost use mathlib.Core.Bool.{false};
 ghost use mathlib.Core.Path.{_≡_};
-ghost use Rattle.outcomes.specs.Outcome.{statusOf, outcomeOf};
+ghost use Rattle.outcomes.specs.Status.{statusOf, Said};
 
-// How a call ends.
-pub enum Outcome {
-    Answered,
-    Refused,
-    Failed,
+// How a call ended. `ok`: it was done, that is, the call was right, files were read or made, and standard output took the first `printed` bytes of
+// `text`. `refusal`: the number of the refusal, or 0.
+pub struct Ended {
+    pub ok: bool,
+    pub refusal: u8,
+    pub printed: usize,
+    pub text: [u8; 8192],
 }
 
 // The program's exit status.
-pub fn status(outcome: Outcome) -> i32
-    ensures { λ r. ⌜ r ≡ statusOf outcome ⌝ }
+pub fn status(ended: Ended) -> i32
+    ensures { λ r. ⌜ r ≡ statusOf ended ⌝ }
 {
-    match outcome {
-        Outcome::Answered => 0,
-        Outcome::Refused => 1,
-        Outcome::Failed => 2,
+    if ended.ok {
+        if ended.refusal == 0 {
+            return 0;
+        }
+        return 1;
+    }
+    2
+}
+
+// A call that failed.
+pub fn failed() -> Ended
+    ensures { λ r. ⌜ r .ok ≡ false ⌝ }
+{
+    Ended {
+        ok: false,
+        refusal: 0,
+        printed: 0,
+        text: [0u8; 8192],
     }
 }
 
-// How a call ends whose operation answers a refusal, or 0, when standard output took what there is to say or did not.
-pub fn outcome_of(refusal: u8, written: bool) -> Outcome
-    ensures { λ r. ⌜ r ≡ outcomeOf refusal written ⌝ }
+// A call that ended with a refusal, or 0, and a text that standard output took, or did not. No answer is longer than 8,192 bytes.
+pub fn ended_with(ok: bool, refusal: u8, text: &[u8]) -> Ended
+    ensures { λ r. ⌜ (ok ≡ false → r .ok ≡ false) × Said refusal (now (text .entry)) r ⌝ }
 {
-    if written {
-        if refusal == 0 {
-            return Outcome::Answered;
-        }
-        return Outcome::Refused;
+    if 8192 < text.len() {
+        return failed();
     }
-    Outcome::Failed
+    let mut kept = [0u8; 8192];
+    let printed = buffers::put_bytes(&mut kept, 0, text);
+    Ended {
+        ok,
+        refusal,
+        printed,
+        text: kept,
+    }
 }

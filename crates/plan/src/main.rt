@@ -23,7 +23,7 @@ fn print_plan(policy: &[u8]) {
     // 4,096 bytes suffice (`printed-suffices`, crate text).
     let mut out = io::buffer();
     let length = put_plan(policy, &mut out);
-    messages::answer(b"plan", &out[..length]);
+    answers::answer(b"plan", &out[..length]);
 }
 
 fn read_policy() {

@@ -1,22 +1,34 @@
--- The refusal that comes with what was handed out into a buffer with room: that of the files.
+-- A call that answers what was handed out into a buffer with room, and is refused where that was; any text.
 use Prim.Native.Nat.{ℕ, _≤_, _<_}
 use mathlib.Core.List.{List}
 use mathlib.Core.Path.{_≡_, sym, ap, _∙_}
 use native.Mathlib.Decide.{ℕ-discrete}
 use native.Mathlib.Omega.{arith}
-use lib.ListN.{length}
-use Rattle.buffers.proofs.Handed.{unless-refused}
+use lib.ListN.{length, take}
+use Rattle.buffers.proofs.Handed.{handed-put, unless-none, unless-refused, unless-into}
 use Rattle.buffers.proofs.Unless.{unless-given}
-use Rattle.buffers.specs.Handed.{writtenUnless}
+use Rattle.buffers.proofs.Writes.{put-front}
+use Rattle.buffers.specs.Handed.{writtenUnless, bufferUnless}
 use Rattle.buffers.specs.declared.Written.{Written}
+use Rattle.decimals.specs.Worded.{refusedText}
+use Rattle.outcomes.proofs.Ending.{ends-answered, ends-refused}
+use Rattle.outcomes.specs.Status.{Said, Ends}
+use Rattle.outcomes.specs.declared.Ended.{Ended}
 
-module _ (refusal : ℕ) (s : List ℕ) (room : ℕ) (fits : length s ≤ room) where
-  unless-refusal : writtenUnless refusal s room .refusal ≡ refusal
-  unless-refusal = go (ℕ-discrete refusal 0)
+module _ (refusal : ℕ) (s out : List ℕ) (room : length s ≤ length out) {w : Written} (answer : w ≡ writtenUnless refusal s (length out)) where
+  number : w .refusal ≡ refusal
+  number = ap (λ (v : Written). v .refusal) answer ∙ go (ℕ-discrete refusal 0)
     where
-      go : Dec (refusal ≡ 0) → writtenUnless refusal s room .refusal ≡ refusal
-      go (yes none) = ap (λ (w : Written). w .refusal) (unless-given refusal none s room fits) ∙ sym none
-      go (no ne) = let some : 0 < refusal = omega arith in ap (λ (w : Written). w .refusal) (unless-refused s room some)
+      go : Dec (refusal ≡ 0) → writtenUnless refusal s (length out) .refusal ≡ refusal
+      go (yes none) = ap (λ (v : Written). v .refusal) (unless-given refusal none s (length out) room) ∙ sym none
+      go (no ne) = let some : 0 < refusal = omega arith in ap (λ (v : Written). v .refusal) (unless-refused s (length out) some)
 
-  pub answer-refusal : {w : Written} → w ≡ writtenUnless refusal s room → w .refusal ≡ refusal
-  answer-refusal e = ap (λ (w : Written). w .refusal) e ∙ unless-refusal
+  pub written-refused : (w .refusal ≡ 0 → ⊥) → (e : Ended) → Said (w .refusal) (refusedText (w .refusal)) e → Ends refusal s e
+  written-refused nz e said = ends-refused refusal s e (omega (arith, number)) (rw number at said)
+
+  pub written-answered : {after : List ℕ} → after ≡ bufferUnless refusal s out → w .refusal ≡ 0 → (e : Ended) → Said 0 (take (w .length) after) e
+      → Ends refusal s e
+  written-answered left z e said =
+      let none : refusal ≡ 0 = sym number ∙ z in
+      let put = handed-put s out room (answer ∙ unless-none s (length out) none) (left ∙ unless-into s out none) in
+      ends-answered refusal s e none (rw (put-front put) at said)

@@ -14,8 +14,8 @@ fn total_of(labels: usize, counts: &[u16; 64], rows: &[[bool; 64]; 64], parents:
     requires { ⌜ (labels ≤ 64) × Rowed labels (now parents) ⌝ }
     ensures { λ r. ⌜ r ≡ total labels (entries (now (counts .entry))) (entryAt (now (rows .entry))) (entries (now (parents .entry))) ⌝ }
 {
-    let sizes = weights::set_sizes(labels, rows, parents);
-    weights::total_keys(labels, counts, &sizes)
+    let sizes = sets::set_sizes(labels, rows, parents);
+    sets::total_keys(labels, counts, &sizes)
 }
 
 // The plan of labels with their accounts and order.
@@ -26,8 +26,8 @@ fn plan_labels(refusal: u8, labels: usize, counts: &[u16; 64], rows: &[[bool; 64
     let chosen = weights::choose(labels, counts, rows);
     let parents = chosen.parents;
     let held = chosen.weights;
-    let sizes = weights::set_sizes(labels, rows, &parents);
-    let total = weights::total_keys(labels, counts, &sizes);
+    let sizes = sets::set_sizes(labels, rows, &parents);
+    let total = sets::total_keys(labels, counts, &sizes);
     Plan {
         refusal,
         zeros: [0u8; 3],

@@ -152,7 +152,7 @@ module _ (file : List ℕ) (s : Policy) (r : Reading file s) where
   reading-refused : (number : ℕ) → policyKind file (s .labels) (s .pairs) ≡ Refused number → stopOf file ≡ refusedThere s number
   reading-refused number e = r .rest ∙ rw (more, scan-refused (577 - (s .labels + s .pairs + 1)) file s number e)
 
--- the end and a refusal are the kinds 2 and 3, behind a label and a pair
+-- the end and a refusal are the kinds 2 and 3, after a label and a pair
 later-kind : (tag : ℕ) → OneOf (2 ∷ 3 ∷ []) tag → 2 ≤ tag
 later-kind tag (inl e) = omega (arith, e)
 later-kind tag (inr e) = omega (arith, e)

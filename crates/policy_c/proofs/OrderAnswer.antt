@@ -14,7 +14,7 @@ use Rattle.policy_file.specs.Whole.{policyRefusal, labelCount, orderOf}
 use Rattle.policy_file.specs.declared.Policy.{Policy}
 use Rattle.policy_c.specs.Order.{lineEntry, inLine, rowsOf}
 
--- so many equal values one behind the other are a list of that value
+-- so many equal values one after the other are a list of that value
 replicate-snoc : {A : Type 0} (n : ℕ) (a : A) → replicate n a ++ (a ∷ []) ≡ replicate (suc n) a
 replicate-snoc zero a = refl
 replicate-snoc (suc n) a = ap (λ (s : List _). a ∷ s) (replicate-snoc n a)

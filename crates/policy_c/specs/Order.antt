@@ -7,11 +7,11 @@ use Rattle.order.specs.Table.{entryAt}
 use Rattle.policy_file.specs.Whole.{policyRefusal, orderOf}
 use Rattle.policy_c.specs.declared.Rows.{Rows}
 
--- entry i of the rows one behind the other
+-- entry i of the rows one after the other
 unfoldable pub lineEntry : List (List Bool) → ℕ → Bool
 lineEntry rows i = entryAt rows (i / 64) (i % 64)
 
--- "64 rows of 64 yes-or-no entries", one row behind the other
+-- "64 rows of 64 yes-or-no entries", one row after the other
 unfoldable pub inLine : List (List Bool) → List Bool
 inLine rows = listed (lineEntry rows) 4096
 

@@ -25,7 +25,7 @@ pub extern "C" fn yendlowa_policy_records(policy: &[u8]) -> usize
     policy::records_read(policy)
 }
 
-// The rows of an order table one behind the other.
+// The rows of an order table one after the other.
 fn in_line(table: &[[bool; 64]; 64]) -> [bool; 4096]
     ensures { λ r. ⌜ r ≡ inLine (now (table .entry)) ⌝ }
 {

@@ -45,7 +45,7 @@ pub verdicts : map policyRefusal
 unfolding sameBytes classOf padding formed someNoSpace wellFormed firstFrom someBelow everyBelow nameOf countOf pairAt isNamed labelNamed labelKind overKind markedKind policyKind isLowerOf isLower isPlaced atEnd scanFrom policyOf
 verdicts = refl
 
--- a single byte left, a foreign mark, an `LB` cut short behind a pair, an `LB` behind a pair, a name with a space before a letter,
+-- a single byte left, a foreign mark, an `LB` cut short after a pair, an `LB` after a pair, a name with a space before a letter,
 -- a name of spaces, a name carried before, a first `OV`
 pub orders : map policyRefusal
     ((one ++ (76 ∷ [])) ∷ (one ++ (84 ∷ 82 ∷ [])) ∷ (E ++ take 11 one) ∷ (E ++ one)

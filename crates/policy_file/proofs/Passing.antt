@@ -25,7 +25,7 @@ module _ {file : List ℕ} where
   place-within (label before r) = omega (arith, r .label .record-at .whole)
   place-within (over before r) = omega (arith, r .over .record-at .whole)
 
-  -- each label has passed where no pair stood before it, each pair behind all the labels
+  -- each label has passed where no pair stood before it, each pair after all the labels
   pub label-passed : {labels pairs : ℕ} → PolicyPasses file labels pairs → (i : ℕ) → i < labels → LabelAt file i 0
   label-passed start i l = absurd (omega arith)
   label-passed (label {labels} {pairs} before r) i l = go (ℕ-discrete i labels) (λ h. label-passed before i h)

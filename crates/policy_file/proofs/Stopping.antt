@@ -26,7 +26,7 @@ row-number (row-7 r) = omega arith
 row-number (row-8 r) = omega arith
 row-number (row-9 r) = omega arith
 
--- What is read behind so many labels and pairs that pass is what the file says there: at the start, with one label and with one pair more.
+-- What is read after so many labels and pairs that pass is what the file says there: at the start, with one label and with one pair more.
 module _ (file : List ℕ) where
   pub said-start : nothingRead ≡ stopAt file 0 0 0
   unfolding listed

@@ -42,7 +42,7 @@ module _ (file : List ℕ) where
       go (at-end before u) = omega arith
       go (read r) = (labels-bound (r .passes), pairs-bound (r .passes), place-within (r .passes))
 
-  -- the tables of every answer: the file's counts and pairs in file order, with 0 behind them
+  -- the tables of every answer: the file's counts and pairs in file order, with 0 after them
   pub counts-read : policyOf file .counts ≡ filled 64 0 (countOf file) (labelCount file)
   unfolding listed
   counts-read = go (answered file)

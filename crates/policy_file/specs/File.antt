@@ -8,19 +8,19 @@ use Rattle.format.specs.Search.{firstFrom}
 use Rattle.format.specs.declared.Found.{Found}
 use Rattle.order.specs.declared.Pair.{Pair}
 
--- where the record behind so many labels and pairs starts
+-- where the record after so many labels and pairs starts
 abbrev pub placeOf : ℕ → ℕ → ℕ
 placeOf labels pairs = 12 * labels + 4 * pairs
 
--- label i's name: 8 bytes behind the mark
+-- label i's name: 8 bytes after the mark
 unfoldable pub nameOf : List ℕ → ℕ → List ℕ
 nameOf file i = bytesAt file (12 * i + 2) 8
 
--- the count of accounts at label i: 2 bytes behind the name
+-- the count of accounts at label i: 2 bytes after the name
 unfoldable pub countOf : List ℕ → ℕ → ℕ
 countOf file i = numberAt file (12 * i + 10)
 
--- pair k of a file with so many labels: the upper label's number, then the lower's, 1 byte each behind the mark
+-- pair k of a file with so many labels: the upper label's number, then the lower's, 1 byte each after the mark
 unfoldable pub pairAt : List ℕ → ℕ → ℕ → Pair
 pairAt file labels k = record {
   upper = getD file (placeOf labels k + 2) 0;

@@ -1,4 +1,4 @@
--- One record of a policy file, read behind so many labels and pairs: a label, an over-pair, the end of the file or a refusal.
+-- One record of a policy file, read after so many labels and pairs: a label, an over-pair, the end of the file or a refusal.
 -- Refusals in the order of 01's table: 2 and 3 at any record; 4 to 7 at `LB`; 5, 8 and 9 at `OV`.
 use Prim.Native.Nat.{ℕ, _-_}
 use mathlib.Core.Bool.{cond, not}
@@ -38,7 +38,7 @@ overKind file labels pairs =
     (cond (leb (p .lower) (p .upper)) (Refused 9)
     (Over p))))
 
--- the record behind so many labels and pairs, with `left` bytes from its start on
+-- the record after so many labels and pairs, with `left` bytes from its start on
 unfoldable pub markedKind : List ℕ → ℕ → ℕ → ℕ → Kind
 markedKind file labels pairs left =
     let mark = bytesAt file (placeOf labels pairs) 2 in

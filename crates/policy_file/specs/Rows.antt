@@ -109,13 +109,13 @@ pub record OverAt (file : List ℕ) (labels pairs : ℕ) : Type 0 where
   pub lower : pairAt file labels pairs .lower < labels
   pub falls : pairAt file labels pairs .upper < pairAt file labels pairs .lower
 
--- the records before the one behind so many labels and pairs all pass
+-- the records before the one after so many labels and pairs all pass
 pub data PolicyPasses (file : List ℕ) : ℕ → ℕ → Type 0 where
   start : PolicyPasses file 0 0
   label : {labels pairs : ℕ} → PolicyPasses file labels pairs → LabelAt file labels pairs → PolicyPasses file (labels + 1) pairs
   over : {labels pairs : ℕ} → PolicyPasses file labels pairs → OverAt file labels pairs → PolicyPasses file labels (pairs + 1)
 
--- reading stops behind so many labels and pairs, under the number: their counts and pairs are those of the file, in file order, with 0 behind them
+-- reading stops after so many labels and pairs, under the number: their counts and pairs are those of the file, in file order, with 0 after them
 abbrev pub stopAt : List ℕ → (number labels pairs : ℕ) → Policy
 stopAt file number labels pairs = record {
   refusal = number;
@@ -145,7 +145,7 @@ pub record Unplaced (file : List ℕ) (labels pairs : ℕ) : Type 0 where
   pub other : 0 < label
   pub never : LowerOf file labels pairs label → ⊥
 
--- no row refuses the file, which ends behind so many labels and pairs
+-- no row refuses the file, which ends after so many labels and pairs
 pub record NoneRefuses (file : List ℕ) (labels pairs : ℕ) : Type 0 where
   pub some : 0 < length file
   pub passes : PolicyPasses file labels pairs

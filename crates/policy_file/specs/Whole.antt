@@ -34,7 +34,7 @@ refusedPolicy number = record {
 abbrev pub nothingRead : Policy
 nothingRead = refusedPolicy 0
 
--- one label more, whose count is stored behind those read before
+-- one label more, whose count is stored after those read before
 abbrev pub withLabel : Policy → (count : ℕ) → Policy
 withLabel s count = record {
   refusal = 0;
@@ -45,7 +45,7 @@ withLabel s count = record {
   over = s .over;
 }
 
--- one pair more, stored behind those read before
+-- one pair more, stored after those read before
 abbrev pub withPair : Policy → Pair → Policy
 withPair s pair = record {
   refusal = 0;
@@ -67,7 +67,7 @@ refusedThere s number = record {
   over = s .over;
 }
 
--- "Whenever an answer is an enum, a definition gives this paper's number and values for each of the enum's cases": behind what is read so far, the
+-- "Whenever an answer is an enum, a definition gives this paper's number and values for each of the enum's cases": after what is read so far, the
 -- count of a label and the two numbers of a pair are added and the rest is read; the end and the first refused record stop.
 abbrev pub onPolicyKind : (Policy → Policy) → Policy → Kind → Policy
 onPolicyKind rest s (Label count) = rest (withLabel s count)
@@ -75,7 +75,7 @@ onPolicyKind rest s (Over pair) = rest (withPair s pair)
 onPolicyKind rest s End = s
 onPolicyKind rest s (Refused number) = refusedThere s number
 
--- where reading stops, from the record behind what is read so far on, for up to n records
+-- where reading stops, from the record after what is read so far on, for up to n records
 unfoldable pub scanFrom : ℕ → List ℕ → Policy → Policy
 scanFrom zero file s = refusedThere s 5
 scanFrom (suc n) file s = onPolicyKind (scanFrom n file) s (policyKind file (s .labels) (s .pairs))

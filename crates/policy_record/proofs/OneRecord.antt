@@ -48,7 +48,7 @@ module _ (file : List ℕ) (labels : ℕ) where
     unfolding labelKind
     label-new e found = rw (lt-leb 64 labels few, e, found)
 
--- the record behind so many labels and pairs, by the tests that led there
+-- the record after so many labels and pairs, by the tests that led there
 module _ (file : List ℕ) (labels pairs : ℕ) where
   abbrev pub left : ℕ
   left = length file - placeOf labels pairs

@@ -1,4 +1,4 @@
-// One record of a policy file, read behind so many labels and pairs.
+// One record of a policy file, read after so many labels and pairs.
 use format::Found;
 use format::LB;
 use format::OV;
@@ -39,7 +39,7 @@ pub fn find_name(policy: &[u8], labels: usize, name: [u8; 8]) -> Found
     found
 }
 
-// The `LB` record behind `labels` labels and no pair.
+// The `LB` record after `labels` labels and no pair.
 fn read_label(policy: &[u8], labels: usize) -> Record
     requires { ⌜ 12 * labels + 12 ≤ length (now policy) ⌝ }
     ensures { λ r. ⌜ r ≡ withName (now (policy .entry)) labels (labelKind (now (policy .entry)) labels) ⌝ }
@@ -60,7 +60,7 @@ fn read_label(policy: &[u8], labels: usize) -> Record
     }
 }
 
-// Pair `k` behind `labels` labels.
+// Pair `k` after `labels` labels.
 fn read_pair(policy: &[u8], labels: usize, k: usize) -> Pair
     requires { ⌜ placeOf labels k + 4 ≤ length (now policy) ⌝ }
     ensures { λ r. ⌜ r ≡ pairAt (now (policy .entry)) labels k ⌝ }
@@ -72,7 +72,7 @@ fn read_pair(policy: &[u8], labels: usize, k: usize) -> Pair
     }
 }
 
-// The `OV` record behind `labels` labels and `pairs` pairs.
+// The `OV` record after `labels` labels and `pairs` pairs.
 fn read_over(policy: &[u8], labels: usize, pairs: usize) -> Kind
     requires { ⌜ placeOf labels pairs + 4 ≤ length (now policy) ⌝ }
     ensures { λ r. ⌜ r ≡ overKind (now (policy .entry)) labels pairs ⌝ }
@@ -95,7 +95,7 @@ fn read_over(policy: &[u8], labels: usize, pairs: usize) -> Kind
     Kind::Over(pair)
 }
 
-// The record behind `labels` labels and `pairs` pairs. Most records are pairs, so their mark is looked for first.
+// The record after `labels` labels and `pairs` pairs. Most records are pairs, so their mark is looked for first.
 pub fn read_record(policy: &[u8], labels: usize, pairs: usize) -> Record
     requires { ⌜ placeOf labels pairs ≤ length (now policy) ⌝ }
     ensures { λ r. ⌜ r ≡ recordAt (now (policy .entry)) labels pairs ⌝ }

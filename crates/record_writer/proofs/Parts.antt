@@ -1,4 +1,4 @@
--- Writes: of the same bytes said otherwise, and of three parts straight behind each other.
+-- Writes: of the same bytes said otherwise, and of three parts straight after each other.
 use Prim.Native.Nat.{ℕ, _+_}
 use mathlib.Core.List.{List, _++_}
 use mathlib.Core.Path.{_≡_, subst}

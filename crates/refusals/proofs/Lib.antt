@@ -1,4 +1,3 @@
 pub mod FirstLine
 pub mod Meaning
-pub mod Places
 pub mod Worked

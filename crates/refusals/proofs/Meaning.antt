@@ -15,8 +15,7 @@ use Rattle.format.proofs.Bytes.{and-true}
 use Rattle.lists.proofs.Pasted.{copied, zero-filled-length, zero-filled-take}
 use Rattle.lists.specs.Buffer.{zeroFilled}
 use Rattle.refusals.specs.Line.{line, firstLine}
-use Rattle.refusals.specs.Refusals.{refusalTexts, refusalWords, textOf, Terminated}
-use Rattle.refusals.specs.Told.{tableLines, wordsLine}
+use Rattle.refusals.specs.Refusals.{refusalTexts, refusalWords, tableLines, wordsLine, textOf, Terminated}
 use Rattle.refusals.proofs.FirstLine.{first-short, first-taken}
 
 -- what numbers from 22 on mean

@@ -1,11 +1,13 @@
 -- The numbers of refusals in words (01, "Refusals by the place of checking"), for programs and for C.
 use Prim.Native.Nat.{ℕ, _-_, _≤_, _<_}
 use Prim.Native.String.{String}
-use mathlib.Core.List.{List, [], _∷_}
+use mathlib.Core.List.{List, [], _∷_, _++_, map}
 use mathlib.Core.Path.{_≡_}
 use lib.ListN.{length, getD, take, drop, replicate}
 use Rattle.decimals.specs.Text.{bytesOf}
+use Rattle.decimals.specs.Worded.{newline}
 use Rattle.lists.specs.Buffer.{zeroFilled}
+use Rattle.refusals.specs.Line.{line}
 
 -- what 0 to 21 mean; 0 is not a refusal
 unfoldable pub refusalTexts : List String
@@ -37,6 +39,14 @@ refusalTexts =
 -- what a number means
 unfoldable pub refusalWords : (number : ℕ) → List ℕ
 refusalWords number = bytesOf (getD refusalTexts number "no such refusal")
+
+-- the words and a line feed: "every line ends in one line feed"
+unfoldable pub wordsLine : (number : ℕ) → List ℕ
+wordsLine number = refusalWords number ++ newline
+
+-- the lines of 0 to 21, then that of any other number
+unfoldable pub tableLines : List (List ℕ)
+tableLines = map line refusalTexts ++ (wordsLine 22 ∷ [])
 
 -- a text of 80 bytes for callers in C: the words, and zeros after them
 unfoldable pub textOf : (number : ℕ) → List ℕ

@@ -1,4 +1,4 @@
-// What a user is told of a refusal: where it was given, and what it means.
+// What a refusal means, in words.
 mod words;
 
 ghost use mathlib.Core.Path.{_≡_};
@@ -6,8 +6,7 @@ ghost use Prim.Native.Nat.{_+_, _≤_};
 ghost use lib.ListN.{length};
 ghost use Rattle.buffers.specs.Put.{Put};
 ghost use Rattle.refusals.specs.Line.{firstLine};
-ghost use Rattle.refusals.specs.Refusals.{textOf};
-ghost use Rattle.refusals.specs.Told.{recordPlace, policyPlace, envelopePlace, wordsLine, policyLine, treeLine, envelopeLine};
+ghost use Rattle.refusals.specs.Refusals.{textOf, wordsLine};
 
 // What a number means, with zeros after it, so null-terminated for callers in C.
 #[repr(C)]
@@ -38,64 +37,12 @@ fn put_first_line(out: &mut [u8], at: usize, text: [u8; 80]) -> usize
     buffers::put_bytes(out, at, &text[..end])
 }
 
-// Writes that a refusal was given at the record after those that were read. Records are counted from 1.
-fn put_record(out: &mut [u8], records: &[u8], read: usize) -> usize
-    requires { ⌜ length (recordPlace (now records) read) ≤ length (now out) ⌝ }
-    ensures { λ r. ⌜ Put (now (out .entry)) (now (out .exit)) 0 (recordPlace (now (records .entry)) read) r ⌝ }
+// Writes the line of a number from `at` on.
+pub fn put_line(out: &mut [u8], at: usize, number: u8) -> usize
+    requires { ⌜ at + 80 ≤ length (now out) ⌝ }
+    ensures { λ r. ⌜ Put (now (out .entry)) (now (out .exit)) at (wordsLine number) r ⌝ }
 {
-    let number = decimals::capped(read) + 1;
-    let next = buffers::put_bytes(out, 0, records);
-    let end = decimals::put_number(out, next, number);
-    buffers::put_bytes(out, end, b": ")
-}
-
-// Writes where a policy was refused: by 2 to 9 at a record.
-fn put_policy_place(out: &mut [u8], number: u8, read: usize) -> usize
-    requires { ⌜ 128 ≤ length (now out) ⌝ }
-    ensures { λ r. ⌜ Put (now (out .entry)) (now (out .exit)) 0 (policyPlace number read) r ⌝ }
-{
-    match number {
-        2..=9 => put_record(out, b"policy record", read),
-        _ => buffers::put_bytes(out, 0, b"policy file: "),
-    }
-}
-
-// Writes where an envelope was refused: by 17 at its header.
-fn put_envelope_place(out: &mut [u8], number: u8, read: usize) -> usize
-    requires { ⌜ 128 ≤ length (now out) ⌝ }
-    ensures { λ r. ⌜ Put (now (out .entry)) (now (out .exit)) 0 (envelopePlace number read) r ⌝ }
-{
-    match number {
-        17 => buffers::put_bytes(out, 0, b"envelope header: "),
-        _ => put_record(out, b"envelope record", read),
-    }
-}
-
-// Writes the line of a refused policy.
-pub fn put_policy(out: &mut [u8], number: u8, read: usize) -> usize
-    requires { ⌜ 128 ≤ length (now out) ⌝ }
-    ensures { λ r. ⌜ Put (now (out .entry)) (now (out .exit)) 0 (policyLine number read) r ⌝ }
-{
-    let next = put_policy_place(out, number, read);
-    put_first_line(out, next, words::meaning(number))
-}
-
-// Writes the line of a refused tree file.
-pub fn put_tree(out: &mut [u8], number: u8) -> usize
-    requires { ⌜ 128 ≤ length (now out) ⌝ }
-    ensures { λ r. ⌜ Put (now (out .entry)) (now (out .exit)) 0 (treeLine number) r ⌝ }
-{
-    let next = buffers::put_bytes(out, 0, b"tree file: ");
-    put_first_line(out, next, words::meaning(number))
-}
-
-// Writes the line of a refused envelope.
-pub fn put_envelope(out: &mut [u8], number: u8, read: usize) -> usize
-    requires { ⌜ 128 ≤ length (now out) ⌝ }
-    ensures { λ r. ⌜ Put (now (out .entry)) (now (out .exit)) 0 (envelopeLine number read) r ⌝ }
-{
-    let next = put_envelope_place(out, number, read);
-    put_first_line(out, next, words::meaning(number))
+    put_first_line(out, at, words::meaning(number))
 }
 
 // Writes the line of a number alone.
@@ -103,7 +50,7 @@ pub fn put_words(out: &mut [u8], number: u8) -> usize
     requires { ⌜ 128 ≤ length (now out) ⌝ }
     ensures { λ r. ⌜ Put (now (out .entry)) (now (out .exit)) 0 (wordsLine number) r ⌝ }
 {
-    put_first_line(out, 0, words::meaning(number))
+    put_line(out, 0, number)
 }
 
 // What a number means, as a text of 80 bytes.

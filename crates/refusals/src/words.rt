@@ -2,7 +2,7 @@
 ghost use mathlib.Core.Path.{_≡_};
 ghost use mathlib.Core.List.{map};
 ghost use Rattle.refusals.specs.Line.{firstLine};
-ghost use Rattle.refusals.specs.Told.{tableLines, wordsLine};
+ghost use Rattle.refusals.specs.Refusals.{tableLines, wordsLine};
 
 // What 0 to 21 mean, then what any other number means: a line each, and spaces after it.
 fn table() -> [[u8; 80]; 23]

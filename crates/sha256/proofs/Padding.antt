@@ -28,7 +28,7 @@ padding-length n =
       word-bytes-length (b % 2 ^ 32),
     )
 
--- the last blocks: the rest is copied, the byte 0x80 stored behind it, and the two words of the length written at the end
+-- the last blocks: the rest is copied, the byte 0x80 stored after it, and the two words of the length written at the end
 pub written : (rest : List ℕ) (total end : ℕ) (copy with-hi with-lo : List ℕ) → length rest ≡ total % 64 → end ≡ length rest + 9 + zeroBytes (length rest)
     → copy ≡ take (length rest) rest ++ drop (length rest) (replicate 128 0)
     → with-hi ≡ pasted (set copy (length rest) 0x80) (end - 8) (wordBytes (total * 8 % 2 ^ 64 / 2 ^ 32))

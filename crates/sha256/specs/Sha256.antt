@@ -30,7 +30,7 @@ unfoldable pub chained : List ℕ → List ℕ → ℕ → List ℕ
 chained h p zero = h
 chained h p (suc i) = compressed (chained h p i) (block p i)
 
--- the first n words of a hash value, one behind the other (section 6.2.2, the end)
+-- the first n words of a hash value, one after the other (section 6.2.2, the end)
 unfoldable pub joined : List ℕ → ℕ → List ℕ
 joined h zero = []
 joined h (suc i) = joined h i ++ wordBytes (getD h i 0)

@@ -48,7 +48,7 @@ fn padded_end(n: usize) -> usize
     if n < 56 { 64 } else { 128 }
 }
 
-// The bytes behind the last whole block of a message of `total` bytes, and the padding: one block or two.
+// The bytes after the last whole block of a message of `total` bytes, and the padding: one block or two.
 fn last_blocks(rest: &[u8], total: usize) -> [u8; 128]
     requires { ⌜ length (now rest) ≡ total % 64 ⌝ }
     ensures { λ r. ⌜ r ≡ zeroFilled 128 (now (rest .entry) ++ padding total) ⌝ }
@@ -99,7 +99,7 @@ pub fn hash_bytes(message: &[u8]) -> [u8; 32]
     finish(compression::initial_value(), 0, message)
 }
 
-// The hash of a block and a message behind it, which is not copied.
+// The hash of a block and a message after it, which is not copied.
 pub fn hash_after(first: [u8; 64], message: &[u8]) -> [u8; 32]
     ensures { λ r. ⌜ r ≡ hash (first ++ now (message .entry)) ⌝ }
 {

@@ -9,11 +9,11 @@ use Rattle.policy_file.proofs.Examples.{E}
 use Rattle.policy_file.specs.File.{nameOf, countOf}
 use Rattle.policy_file.specs.Whole.{policyOf}
 use Rattle.text.proofs.Plans.{plan-number}
-use Rattle.text.proofs.Printed.{printed-accepted}
+use Rattle.decimals.proofs.Printed.{printed-accepted}
 use Rattle.decimals.specs.Decimal.{digitsBefore, decimal}
-use Rattle.decimals.specs.Worded.{worded, refusedText}
+use Rattle.decimals.specs.Worded.{worded, refusedText, printedUnless}
 use Rattle.text.specs.Listing.{parentName, names, numbers, line, lastLine, listing, planText}
-use Rattle.text.specs.Printed.{printedUnless, printed}
+use Rattle.text.specs.Printed.{printed}
 
 -- SUITE - 2 1 2
 -- CURVES SUITE 3 2 3

@@ -10,10 +10,9 @@ use Rattle.buffers.proofs.Unless.{unless-given}
 use Rattle.buffers.specs.Handed.{handed, handedInto, writtenUnless, bufferUnless}
 use Rattle.buffers.specs.Put.{Put}
 use Rattle.buffers.specs.declared.Written.{Written}
+use Rattle.decimals.proofs.Printed.{printed-accepted, printed-refused}
 use Rattle.decimals.proofs.Worded.{refused-short}
-use Rattle.decimals.specs.Worded.{refusedText}
-use Rattle.text.specs.Printed.{printedUnless}
-use Rattle.text.proofs.Printed.{printed-accepted, printed-refused}
+use Rattle.decimals.specs.Worded.{refusedText, printedUnless}
 
 module _ (refusal : ℕ) (s out : List ℕ) (room : length s ≤ length out) {w : Written} {mid : List ℕ}
     (answer : w ≡ writtenUnless refusal s (length out)) (left : mid ≡ bufferUnless refusal s out) where

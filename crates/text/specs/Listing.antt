@@ -29,7 +29,7 @@ parentName file plan m = cond (eqb m top) dash (unpadded (nameOf file (getD (pla
 unfoldable pub names : List ℕ → Plan → ℕ → List ℕ
 names file plan m = unpadded (nameOf file m) ++ space ++ parentName file plan m
 
--- three numbers, each behind a space
+-- three numbers, each after a space
 unfoldable pub numbers : (weight size count : ℕ) → List ℕ
 numbers weight size count = (space ++ decimal weight) ++ (space ++ decimal size) ++ (space ++ decimal count)
 

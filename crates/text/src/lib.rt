@@ -43,7 +43,7 @@ fn put_names(policy: &[u8], plan: Plan, m: usize, out: &mut [u8], at: usize) -> 
     put_parent(policy, plan, m, out, parent)
 }
 
-// Writes three numbers, each behind a space.
+// Writes three numbers, each after a space.
 fn put_numbers(out: &mut [u8], at: usize, weight: u32, size: u32, count: u32) -> usize
     requires { ⌜ at + length (numbers weight size count) ≤ length (now out) ⌝ }
     ensures { λ r. ⌜ Put (now (out .entry)) (now (out .exit)) at (numbers weight size count) r ⌝ }

@@ -71,7 +71,7 @@ once-snoc (a ∷ s) x o h = (λ m. go (List·Memᴰ·append-cases s m), once-sno
     go (inl m) = o .0 m
     go (inr m) = h (List·Memᴰ·head (sym (List·Memᴰ·eq-of-singleton m)))
 
--- two lists that share no member may stand one behind the other
+-- two lists that share no member may stand one after the other
 pub once-append : {A : Type 0} (s t : List A) → Once s → Once t → ((x : A) → List·Memᴰ x s → List·Memᴰ x t → ⊥) → Once (s ++ t)
 once-append [] t o p h = p
 once-append (a ∷ s) t o p h = (λ m. go (List·Memᴰ·append-cases s m), once-append s t (o .1) p (λ x k. h x (List·Memᴰ·tail k)))

@@ -3,7 +3,7 @@ use crate::print;
 
 // The key of a label.
 pub(crate) fn key(policy: &[u8], name: &[u8], root: &[u8]) {
-    let k = issuer::issuer_key(policy, name, root);
+    let k = issuer_keys::issuer_key(policy, name, root);
     if print::accepted(k.refusal) {
         let bytes = k.key;
         print::hexadecimal(&bytes, 32);

@@ -19,7 +19,7 @@ pub(crate) fn accepted(refusal: u8) -> bool {
     false
 }
 
-// A number, and the word behind it.
+// A number, and the word after it.
 pub(crate) fn counted(number: u64, word: &[u8]) {
     io::print_decimal(1, number);
     io::write_all(1, word);

@@ -5,4 +5,3 @@ pub mod Agree
 pub mod Choices
 pub mod Short
 pub mod Above
-pub mod Sizes

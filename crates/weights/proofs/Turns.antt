@@ -1,33 +1,16 @@
--- One turn of each loop: what the sum, the size or the best parent so far is with one label more.
-use Prim.Native.Nat.{ℕ, _+_, _*_, _≤_}
-use mathlib.Core.Bool.{Bool, true, false, cond, not, _&&_, _||_}
+-- One turn of each loop: what the sum or the best parent so far is with one label more.
+use Prim.Native.Nat.{ℕ, _+_}
+use mathlib.Core.Bool.{Bool, true, false, cond, _&&_}
 use mathlib.Core.Path.{_≡_, refl, sym, ap₂, _∙_}
-use native.Mathlib.Nat.{mul-le-mul}
 use native.Mathlib.Numerals.{add-one}
-use lib.Dec.{eqb}
-use Rattle.trees.specs.Trees.{top}
-use Rattle.trees.specs.Sums.{sum, sumWhere}
-use Rattle.trees.specs.Weights.{weight, inSmallest, takes, best}
-use Rattle.trees.proofs.Sums.{sum-suc}
+use Rattle.trees.specs.Sums.{sumWhere}
+use Rattle.trees.specs.Weights.{weight, takes, best}
 use Rattle.trees.proofs.Ties.{best-pass}
-
--- the keys of one label's accounts, with the widths that they are held in
-pub keys-bound : {k s : ℕ} → k ≤ 65_535 → s ≤ 255 → k * s ≤ 16_711_425
-keys-bound hk hs = mul-le-mul hk hs
-
--- a sum
-pub sum-turn : (f : ℕ → ℕ) (n s x : ℕ) → s ≡ sum f n → x ≡ f n → s + x ≡ sum f (n + 1)
-sum-turn f n s x e h = rw add-one (ap₂ _+_ e h ∙ sym (sum-suc f n))
 
 -- a conditional sum
 pub where-turn : (t : ℕ → Bool) (f : ℕ → ℕ) (n s x : ℕ) → s ≡ sumWhere t f n → x ≡ cond (t n) (f n) 0 → s + x ≡ sumWhere t f (n + 1)
 unfolding sumWhere
 where-turn t f n s x e h = rw add-one (ap₂ _+_ e h)
-
--- whether a label is in the smallest set, with its parent q in hand
-pub inSmallest-held : (le : ℕ → ℕ → Bool) (parent : ℕ → ℕ) (l m q : ℕ) → q ≡ parent m → (le m l && (eqb m top || not (le q l))) ≡ inSmallest le parent l m
-unfolding inSmallest
-inSmallest-held le parent l m q e = rw e
 
 -- the best of the top alone is the top
 pub best-one : (n : ℕ) (count : ℕ → ℕ) (le : ℕ → ℕ → Bool) (m : ℕ) → 0 ≡ best n count le m 1

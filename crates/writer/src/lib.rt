@@ -38,7 +38,7 @@ fn held_labels(labels: usize, rows: &[[bool; 64]; 64], parents: &[u8; 64], l: us
     let mut held = [false; 64];
     let mut m = 0;
     while m < labels {
-        held[m] = weights::in_smallest(rows, parents, l, m);
+        held[m] = sets::in_smallest(rows, parents, l, m);
         m += 1;
     }
     held

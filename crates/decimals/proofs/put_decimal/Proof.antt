@@ -1,4 +1,4 @@
--- `decimals::put_decimal` meets its contract. Invariant: the digits behind place i are gathered, those of `rest` are to come.
+-- `decimals::put_decimal` meets its contract. Invariant: the digits after place i are gathered, those of `rest` are to come.
 use Prim.Native.Nat.{_≤_}
 use mathlib.Core.Path.{refl}
 use native.Mathlib.Omega.{arith}

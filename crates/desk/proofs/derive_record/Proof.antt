@@ -1,4 +1,4 @@
--- `desk::derive_record` meets its contract: the key is made from the secret that the walk leads to, one application behind its steps.
+-- `desk::derive_record` meets its contract: the key is made from the secret that the walk leads to, one application after its steps.
 use Prim.Native.Nat.{ℕ, _+_}
 use mathlib.Core.List.{List}
 use mathlib.Core.Path.{_≡_, ap, _∙_}

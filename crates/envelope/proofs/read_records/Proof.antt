@@ -1,4 +1,4 @@
--- `envelope::read_records` meets its contract. Invariant: the file's answer and count are those of its rest, behind the records read.
+-- `envelope::read_records` meets its contract. Invariant: the file's answer and count are those of its rest, after the records read.
 use Prim.Native.Nat.{_-_}
 use mathlib.Core.Path.{sym, _∙_}
 use native.Mathlib.Omega.{arith}

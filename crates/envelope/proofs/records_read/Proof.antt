@@ -1,4 +1,4 @@
--- `envelope::records_read` meets its contract: none behind a header that is refused, else those counted.
+-- `envelope::records_read` meets its contract: none after a header that is refused, else those counted.
 use mathlib.Core.Path.{sym, _∙_}
 use native.Mathlib.Omega.{arith}
 use borrow.Author.Needs.{needs}

@@ -5,9 +5,13 @@ use mathlib.Core.Path.{_≡_, refl, sym}
 use native.Mathlib.Omega.{arith}
 use lib.ListN.{length}
 use borrow.Author.Needs.{needs}
-use Rattle.files.proofs.Counting.{counted}
+use Rattle.arguments.proofs.Counting.{counted}
 use Rattle.files.proofs.read_open.Statement.{statement}
 use Rattle.files.proofs.read_open.Tie as tie
+
+-- the second of two facts first, since that is the one that a program can miss
+also : {A B : Type 0} → B → A → A × B
+also b a = (a, b)
 
 abbrev Inv-loop : tie.InvT-loop
 Inv-loop fd buffer₀ at₀ buffer at = (at ≤ length buffer) × (length buffer ≡ length buffer₀)
@@ -34,7 +38,7 @@ same-length : tie.Need-same-length Inv-loop μ-loop
 same-length c = search needs
 
 returns : tie.Need-returns Inv-loop μ-loop
-returns c = (search needs, λ e. refl)
+returns c = also (λ e. refl) (search needs)
 
 sub-count : tie.Need-sub-count Inv-loop μ-loop
 sub-count c = search needs

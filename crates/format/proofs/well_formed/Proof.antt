@@ -1,4 +1,4 @@
--- `format::well_formed` meets its contract. Invariant: the name is well formed exactly when its rest from place i on is, behind what was read.
+-- `format::well_formed` meets its contract. Invariant: the name is well formed exactly when its rest from place i on is, after what was read.
 use Prim.Native.Nat.{_-_, _≤_}
 use mathlib.Core.Path.{_≡_, refl, sym, _∙_}
 use native.Mathlib.Omega.{arith}

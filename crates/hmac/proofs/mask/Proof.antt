@@ -1,4 +1,4 @@
--- `hmac::mask` meets its contract. The invariant: the first `i` bytes are masked, zeros stand behind them.
+-- `hmac::mask` meets its contract. The invariant: the first `i` bytes are masked, zeros stand after them.
 use mathlib.Core.Path.{_∙_, _≡_}
 use Prim.Native.Nat.{_≤_, _-_}
 use native.Mathlib.Omega.{arith}

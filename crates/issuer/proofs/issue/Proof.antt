@@ -6,7 +6,8 @@ use lib.ListN.{length, replicate}
 use borrow.Author.Needs.{needs}
 use Rattle.buffers.specs.Handed.{refusedWritten}
 use Rattle.issuer_answers.proofs.Answers.{account-whole, issue-policy, asked-13, number-refuses, issued-at, buffer-at}
-use Rattle.issuer.proofs.Tables.{plan-number, plan-within, plan-accepted, plan-rows, plan-hung, asked-told, told-below, told-within, envelope-made}
+use Rattle.issuer_keys.proofs.Tables.{plan-number, plan-within, plan-accepted, plan-hung, asked-told, told-below, told-within}
+use Rattle.issuer.proofs.Tables.{plan-rows, envelope-made}
 use Rattle.issuer.proofs.issue.Statement.{statement}
 use Rattle.issuer.proofs.issue.Tie as tie
 

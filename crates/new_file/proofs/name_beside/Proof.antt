@@ -1,5 +1,5 @@
 -- `new_file::name_beside` is safe, and its count lies within the buffer.
-use Rattle.files.proofs.Counting.{handed-counted}
+use Rattle.arguments.proofs.Counting.{handed-counted}
 use borrow.Author.Needs.{needs}
 use Rattle.new_file.proofs.name_beside.Statement.{statement}
 use Rattle.new_file.proofs.name_beside.Tie as tie

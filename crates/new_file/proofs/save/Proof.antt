@@ -10,33 +10,8 @@ returns c = refl
 returns-2 : tie.Need-returns-2
 returns-2 c = refl
 
-returns-3 : tie.Need-returns-3
-returns-3 c = refl
-
-create-requires : tie.Need-create-requires
-create-requires c κs = search needs
-
-file-failed-requires : tie.Need-file-failed-requires
-file-failed-requires c κs = search needs
-
-close-requires : tie.Need-close-requires
-close-requires c κs = search needs
-
-make-requires : tie.Need-make-requires
-make-requires c κs = search needs
-
-unlink-requires : tie.Need-unlink-requires
-unlink-requires c κs = search needs
+make-new-requires : tie.Need-make-new-requires
+make-new-requires c κs = search needs
 
 pub save-spec : {M : Type 1} → statement M
-save-spec =
-    tie.close
-    (tie.spec
-    create-requires
-    file-failed-requires
-    returns
-    close-requires
-    make-requires
-    returns-2
-    unlink-requires
-    returns-3)
+save-spec = tie.close (tie.spec make-new-requires returns returns-2)

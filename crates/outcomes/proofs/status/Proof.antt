@@ -1,25 +1,20 @@
 -- `outcomes::status` meets its contract.
-use borrow.Author.Needs.{needs}
+use borrow.Author.Tests.{eq-eqb, ne-eqb}
+use Rattle.outcomes.specs.Status.{statusOf}
 use Rattle.outcomes.proofs.status.Statement.{statement}
 use Rattle.outcomes.proofs.status.Tie as tie
 
-enum-told : tie.Need-enum-told
-enum-told c = search needs
-
-enum-told-2 : tie.Need-enum-told-2
-enum-told-2 c = search needs
-
-enum-told-3 : tie.Need-enum-told-3
-enum-told-3 c = search needs
-
 returns : tie.Need-returns
-returns c = rw (c .enum-told .given .1)
+unfolding statusOf
+returns c = rw (c .before .before .if1 .taken, eq-eqb _ 0 (c .if2 .taken))
 
 returns-2 : tie.Need-returns-2
-returns-2 c = rw (c .enum-told2 .given .1)
+unfolding statusOf
+returns-2 c = rw (c .before .before .if1 .taken, ne-eqb _ 0 (c .if2 .left))
 
 returns-3 : tie.Need-returns-3
-returns-3 c = rw (c .enum-told3 .given .1)
+unfolding statusOf
+returns-3 c = rw (c .if1 .left)
 
 pub status-spec : {M : Type 1} → statement M
-status-spec = tie.close (tie.spec enum-told enum-told-2 enum-told-3 returns returns-2 returns-3)
+status-spec = tie.close (tie.spec returns returns-2 returns-3)

@@ -2,7 +2,7 @@
 use native.Mathlib.Omega.{arith}
 use borrow.Author.Needs.{needs}
 use Rattle.buffers.proofs.Writes.{put-length}
-use Rattle.files.proofs.Counting.{counted}
+use Rattle.arguments.proofs.Counting.{counted}
 use Rattle.policy_file.specs.Whole.{policyRefusal}
 use Rattle.text.proofs.Printing.{print-accepted, print-refused}
 use Rattle.text.proofs.Plans.{text-suffices}

@@ -1,4 +1,4 @@
--- `policy::read_to_stop` meets its contract. Invariant: the file's stop is that of its rest, behind what is read so far.
+-- `policy::read_to_stop` meets its contract. Invariant: the file's stop is that of its rest, after what is read so far.
 use Prim.Native.Nat.{_+_, _-_}
 use mathlib.Core.Path.{sym, ap, _∙_}
 use native.Mathlib.Omega.{arith}

@@ -4,18 +4,13 @@ use Rattle.refusals.proofs.put_words.Statement.{statement}
 use Rattle.refusals.proofs.put_words.Tie as tie
 
 returns : tie.Need-returns
-returns c =
-    let p = c .before .before in
-    rw (p .before .meaning .ensures) at (p .put-first-line .ensures)
+returns c = c .before .before .put-line .ensures
 
-meaning-requires : tie.Need-meaning-requires
-meaning-requires c κs = search needs
-
-put-first-line-requires : tie.Need-put-first-line-requires
-put-first-line-requires c κs = search needs
+put-line-requires : tie.Need-put-line-requires
+put-line-requires c κs = search needs
 
 same-length : tie.Need-same-length
 same-length c = search needs
 
 pub put-words-spec : {M : Type 1} → statement M
-put-words-spec = tie.close (tie.spec meaning-requires put-first-line-requires same-length returns)
+put-words-spec = tie.close (tie.spec put-line-requires same-length returns)

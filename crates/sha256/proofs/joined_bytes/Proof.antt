@@ -1,4 +1,4 @@
--- `sha256::joined_bytes` meets its contract. The invariant: the bytes of the first `i` words are written, zeros stand behind them.
+-- `sha256::joined_bytes` meets its contract. The invariant: the bytes of the first `i` words are written, zeros stand after them.
 use mathlib.Core.Path.{_∙_, _≡_}
 use Prim.Native.Nat.{_≤_, _-_}
 use native.Mathlib.Omega.{arith}

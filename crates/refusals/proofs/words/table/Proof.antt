@@ -2,8 +2,7 @@
 use mathlib.Core.Path.{refl}
 use Rattle.decimals.specs.Text.{bytesOf}
 use Rattle.refusals.specs.Line.{line, firstLine}
-use Rattle.refusals.specs.Refusals.{refusalTexts, refusalWords}
-use Rattle.refusals.specs.Told.{tableLines, wordsLine}
+use Rattle.refusals.specs.Refusals.{refusalTexts, refusalWords, tableLines, wordsLine}
 use Rattle.refusals.proofs.words.table.Statement.{statement}
 use Rattle.refusals.proofs.words.table.Tie as tie
 

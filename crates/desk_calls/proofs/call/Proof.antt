@@ -1,0 +1,80 @@
+-- `desk_calls::call` meets its contract: no verb is called unless it takes the arguments.
+use mathlib.Core.Bool.{false≢true}
+use mathlib.Core.Path.{sym, _∙_}
+use native.Mathlib.Omega.{arith}
+use borrow.Author.Needs.{needs}
+use Rattle.verbs.proofs.Taken.{told}
+use Rattle.desk_tables.specs.Calls.{verbs}
+use Rattle.desk_calls.specs.Ran.{failed}
+use Rattle.desk_calls.proofs.call.Statement.{statement}
+use Rattle.desk_calls.proofs.call.Tie as tie
+
+returns : tie.Need-returns
+unfolding verbs
+returns c =
+    let i = c .before in
+    let t = i .before in
+    let m = t .before in
+    let l = m .before in
+    let f = l .before in
+    let w = f .before in
+    let args = w .before .before .before .args in
+    let same =
+    told
+    (args .word .now)
+    (args .count)
+    verbs
+    (omega arith)
+    (w .words .result)
+    (l .least .result)
+    (m .most .result)
+    (f .find .result)
+    (w .words .ensures)
+    (f .find .ensures)
+    (l .least .ensures)
+    (m .most .ensures)
+    (t .takes .ensures)
+    in
+    (λ wrong. absurd (false≢true (sym wrong ∙ sym same ∙ i .if1 .taken)), c .perform .ensures)
+
+words-requires : tie.Need-words-requires
+words-requires c κs = search needs
+
+find-requires : tie.Need-find-requires
+find-requires c κs = search needs
+
+least-requires : tie.Need-least-requires
+least-requires c κs = search needs
+
+most-requires : tie.Need-most-requires
+most-requires c κs = search needs
+
+takes-requires : tie.Need-takes-requires
+takes-requires c κs = search needs
+
+perform-requires : tie.Need-perform-requires
+perform-requires c κs = search needs
+
+tell-wrong-requires : tie.Need-tell-wrong-requires
+tell-wrong-requires c κs = search needs
+
+failed-requires : tie.Need-failed-requires
+failed-requires c κs = search needs
+
+returns-2 : tie.Need-returns-2
+returns-2 c = let f = c .failed .ensures in (λ _. f, failed f)
+
+pub call-spec : {M : Type 1} → statement M
+call-spec =
+    tie.close
+    (tie.spec
+    words-requires
+    find-requires
+    least-requires
+    most-requires
+    takes-requires
+    perform-requires
+    returns
+    tell-wrong-requires
+    failed-requires
+    returns-2)

@@ -1,0 +1,28 @@
+-- `desk_calls::perform` meets its contract: it ends as the verb does.
+use borrow.Author.Needs.{needs}
+use Rattle.desk_calls.specs.Ran.{failed}
+use Rattle.desk_calls.proofs.perform.Statement.{statement}
+use Rattle.desk_calls.proofs.perform.Tie as tie
+
+derive-requires : tie.Need-derive-requires
+derive-requires c κs = search needs
+
+labels-requires : tie.Need-labels-requires
+labels-requires c κs = search needs
+
+failed-requires : tie.Need-failed-requires
+failed-requires c κs = search needs
+
+returns : tie.Need-returns
+returns c = search needs
+
+returns-2 : tie.Need-returns-2
+returns-2 c = search needs
+
+returns-3 : tie.Need-returns-3
+returns-3 c = failed (c .failed .ensures)
+
+pub perform-spec : {M : Type 1} → statement M
+perform-spec =
+    tie.close
+    (tie.spec derive-requires labels-requires failed-requires returns returns-2 returns-3)

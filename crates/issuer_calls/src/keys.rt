@@ -1,0 +1,106 @@
+// The arguments of `key`, `issue` and `root`. Wrong calls are told before any file is read or made.
+use command::Number;
+use outcomes::Ended;
+ghost use Rattle.issuer_calls.specs.Ran.{Ran};
+
+// `key [--fingerprint] POLICY NAME ROOT`
+pub(crate) fn key(program: &[u8], option: bool) -> Ended
+    ensures { λ r. ⌜ Ran r ⌝ }
+{
+    let at = key_verb::first_argument(option);
+    // Longer files have the answer of their first 4,096 bytes (`key-front`, `key-root-front`, crate issuer_answers).
+    let mut policy = io::buffer();
+    let mut root = io::buffer();
+    let read = files::read_both(program, at, at + 2, &mut policy, &mut root);
+    let mut name = io::buffer();
+    let name_length = arguments::name_argument(at + 1, &mut name);
+    let policy_length = read.first;
+    let root_length = read.second;
+    key_verb::print_key(
+        program,
+        read.ok,
+        &policy[..policy_length],
+        &name[..name_length],
+        &root[..root_length],
+        option,
+    )
+}
+
+// Whether the argument that is to name a new file is `-`, which is then told.
+fn is_no_file(program: &[u8], i: usize) -> bool {
+    if arguments::is_argument(i, b"-") {
+        messages::tell_line(
+            program,
+            b"OUT '-' is not a file name; secrets are written to a new file only",
+        );
+        return true;
+    }
+    false
+}
+
+// `issue`, for the account number that was read
+fn issue_to(program: &[u8], option: bool, account: u32) -> Ended
+    ensures { λ r. ⌜ Ran r ⌝ }
+{
+    let at = key_verb::first_argument(option);
+    if is_no_file(program, at + 4) {
+        return outcomes::failed();
+    }
+    // As for `key` (`buffer-front`, `buffer-root-front`, crate issuer_answers).
+    let mut policy = io::buffer();
+    let mut root = io::buffer();
+    let read = files::read_both(program, at, at + 3, &mut policy, &mut root);
+    let mut name = io::buffer();
+    let name_length = arguments::name_argument(at + 1, &mut name);
+    let mut out = io::buffer();
+    let out_length = arguments::argument(at + 4, &mut out);
+    let policy_length = read.first;
+    let root_length = read.second;
+    issue_verb::save_envelope(
+        program,
+        read.ok,
+        &policy[..policy_length],
+        &name[..name_length],
+        account,
+        &root[..root_length],
+        option,
+        &out[..out_length],
+    )
+}
+
+// Tells an ACCOUNT that is not a number.
+fn no_number(program: &[u8], typed: &[u8]) -> Ended
+    ensures { λ r. ⌜ Ran r ⌝ }
+{
+    messages::tell_value(program, b"ACCOUNT ", typed, b" is not a number");
+    outcomes::failed()
+}
+
+// `issue [--fingerprint] POLICY NAME ACCOUNT ROOT OUT`
+pub(crate) fn issue(program: &[u8], option: bool) -> Ended
+    ensures { λ r. ⌜ Ran r ⌝ }
+{
+    let at = key_verb::first_argument(option) + 2;
+    let mut typed = io::buffer();
+    let length = arguments::argument(at, &mut typed);
+    // A longer one is cut here, and what was cut off may be something else than digits.
+    if length == 4096 {
+        return no_number(program, &typed[..length]);
+    }
+    match command::read_account(&typed[..length]) {
+        Number::Is(account) => issue_to(program, option, account),
+        Number::Not => no_number(program, &typed[..length]),
+    }
+}
+
+// `root OUT`
+pub(crate) fn root(program: &[u8]) -> Ended
+    ensures { λ r. ⌜ Ran r ⌝ }
+{
+    if is_no_file(program, 2) {
+        return outcomes::failed();
+    }
+    let mut out = io::buffer();
+    let length = arguments::argument(2, &mut out);
+    root_verb::save_root(program, &out[..length])
+}

@@ -1,0 +1,55 @@
+// The arguments of `plan`, `draw` and `weigh`. Wrong calls are told before any file is read.
+use files::Read;
+use outcomes::Ended;
+ghost use Rattle.issuer_calls.specs.Ran.{Ran};
+ghost use Rattle.io.specs.Counts.{Counts};
+
+// Reads the policy that the argument after the verb names, standard input where there is none.
+fn read_policy(program: &[u8], given: bool, policy: &mut [u8]) -> Read
+    ensures { λ r. ⌜ Counts (r .length) (now (policy .exit)) ⌝ }
+{
+    if given {
+        return files::read_argument(program, 2, policy);
+    }
+    files::read_input(program, policy)
+}
+
+// `plan [POLICY]`
+pub(crate) fn plan(program: &[u8], given: bool) -> Ended
+    ensures { λ r. ⌜ Ran r ⌝ }
+{
+    // More than the 2,828 bytes that decide (`printed-front`, crate text).
+    let mut policy = io::buffer();
+    let read = read_policy(program, given, &mut policy);
+    let length = read.length;
+    plan_verbs::print_plan(program, read.ok, &policy[..length])
+}
+
+// `draw [POLICY]`
+pub(crate) fn draw(program: &[u8], given: bool) -> Ended
+    ensures { λ r. ⌜ Ran r ⌝ }
+{
+    // As for `plan` (`printed-front`, crate dot).
+    let mut policy = io::buffer();
+    let read = read_policy(program, given, &mut policy);
+    let length = read.length;
+    plan_verbs::print_drawing(program, read.ok, &policy[..length])
+}
+
+// `weigh POLICY TREE`
+pub(crate) fn weigh(program: &[u8]) -> Ended
+    ensures { λ r. ⌜ Ran r ⌝ }
+{
+    // Longer files have the answer of their first 4,096 bytes (`weigh-front`, `weigh-tree-front`, crate plan_answers).
+    let mut policy = io::buffer();
+    let mut tree = io::buffer();
+    let read = files::read_both(program, 2, 3, &mut policy, &mut tree);
+    let policy_length = read.first;
+    let tree_length = read.second;
+    plan_verbs::print_weighed(
+        program,
+        read.ok,
+        &policy[..policy_length],
+        &tree[..tree_length],
+    )
+}

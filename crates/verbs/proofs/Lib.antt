@@ -1,0 +1,4 @@
+pub mod Counts
+pub mod Places
+pub mod Taken
+pub mod Trimmed

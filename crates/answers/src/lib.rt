@@ -1,39 +1,40 @@
-// What a program writes to standard output: an answer, or the number of a refusal. Where the system does not take it all the call has failed,
-// and standard error says why.
+// What a program writes to standard output. No other crate of `yendlowa`, `yendlowa-desk` and `plan` writes there. Where the system does not take it all the call has failed, and standard
+// error says why.
 use libc::STDOUT_FILENO;
 use outcomes::Ended;
-ghost use Prim.Native.Nat.{ℕ};
+ghost use Prim.Native.Nat.{ℕ, _≤_};
 ghost use mathlib.Core.List.{List};
+ghost use lib.ListN.{length};
 ghost use Rattle.answers.specs.Version.{versionLine};
-ghost use Rattle.decimals.specs.Worded.{refusedText};
-ghost use Rattle.outcomes.specs.Status.{Said};
+ghost use Rattle.outcomes.specs.Status.{Said, Printed};
 
-// Says a text, with a refusal or 0: what is handed to standard output is what is kept.
-fn say(program: &[u8], refusal: u8, text: &[u8]) -> Ended
-    ensures { λ r. ⌜ Said refusal (now (text .entry)) r ⌝ }
-{
-    let all = io::write_all(STDOUT_FILENO, text);
+// Writes the front of a text to standard output, and answers whether it was taken.
+fn write(program: &[u8], text: &[u8], length: usize) -> bool {
+    if text.len() < length {
+        return false;
+    }
+    let all = io::write_all(STDOUT_FILENO, &text[..length]);
     if !all {
         messages::failed(program, b"standard output");
     }
-    outcomes::ended_with(all, refusal, text)
+    all
+}
+
+// Prints what a call is to say. One that failed says nothing.
+pub fn print(program: &[u8], ended: Ended) -> Ended
+    ensures { λ r. ⌜ Printed ended r ⌝ }
+{
+    let text = ended.text;
+    let taken = ended.ok && write(program, &text, ended.printed);
+    outcomes::printed(taken, ended)
 }
 
 // Answers a text.
 pub fn answer(program: &[u8], text: &[u8]) -> Ended
+    requires { ⌜ length (now text) ≤ 8192 ⌝ }
     ensures { λ r. ⌜ Said 0 (now (text .entry)) r ⌝ }
 {
-    say(program, 0, text)
-}
-
-// Answers the number of a refusal.
-pub fn refuse(program: &[u8], number: u8) -> Ended
-    ensures { λ r. ⌜ Said number (refusedText number) r ⌝ }
-{
-    let mut line = [0u8; 32];
-    let written = decimals::refused_text(number, &mut line);
-    let end = written.length;
-    say(program, number, &line[..end])
+    print(program, outcomes::ended_with(true, 0, text))
 }
 
 // Answers the program's name and its version. No program's name is longer than 32 bytes.

@@ -7,11 +7,11 @@ use Rattle.buffers.proofs.Handed.{unless-refused}
 use Rattle.buffers.proofs.Unless.{unless-given, unless-filled, unless-sixteen, unless-zeros, unless-unchanged}
 use Rattle.buffers.specs.Handed.{writtenUnless, bufferUnless}
 use Rattle.buffers.specs.declared.Written.{Written}
-use Rattle.dot.specs.Answer.{drawingWritten, drawingAfter}
-use Rattle.dot.specs.Drawing.{dotText}
+use Rattle.plan_texts.specs.DrawingAnswer.{drawingWritten, drawingAfter}
+use Rattle.plan_texts.specs.Drawing.{dotText}
 use Rattle.policy_file.specs.Whole.{policyRefusal}
-use Rattle.text.specs.Answer.{textWritten, textAfter}
-use Rattle.text.specs.Listing.{planText}
+use Rattle.plan_texts.specs.TextAnswer.{textWritten, textAfter}
+use Rattle.plan_texts.specs.Listing.{planText}
 use Rattle.claims.specs.Demand1Texts.{OfWritten, Demand1OfTexts}
 
 of-written : (policy bytes out : List ℕ)

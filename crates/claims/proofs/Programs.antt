@@ -4,13 +4,13 @@ use mathlib.Core.List.{List}
 use mathlib.Core.Path.{sym, _∙_}
 use native.Mathlib.Omega.{arith}
 use Rattle.envelope_file.proofs.Front.{derived-front, labels-front, records-front}
-use Rattle.dot.proofs.Front.{drawing-front}
+use Rattle.plan_texts.proofs.DrawingFront.{drawing-front}
 use Rattle.faults.proofs.Front.{second-top-front, ill-hung-front}
 use Rattle.fingerprint.proofs.Laws.{fingerprint-front}
 use Rattle.issuer_answers.proofs.Front.{key-front, issued-front, buffer-front, key-root-front, issued-root-front, buffer-root-front}
 use Rattle.plan_answers.proofs.Front.{weigh-front, weigh-tree-front}
 use Rattle.policy_file.proofs.Front.{front-answers, front-records}
-use Rattle.text.proofs.Printed.{printed-front}
+use Rattle.plan_texts.proofs.Printed.{printed-front}
 use Rattle.claims.specs.Programs.{front, OfPlans, OfIssuer, OfDesk}
 
 pub plans-from-front : (policy : List ℕ) → OfPlans policy

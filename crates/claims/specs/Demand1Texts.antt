@@ -7,11 +7,11 @@ use mathlib.Core.Path.{_≡_}
 use lib.ListN.{length, drop}
 use Rattle.buffers.specs.Handed.{wrote, refusedWritten}
 use Rattle.buffers.specs.declared.Written.{Written}
-use Rattle.dot.specs.Answer.{drawingWritten, drawingAfter}
-use Rattle.dot.specs.Drawing.{dotText}
+use Rattle.plan_texts.specs.DrawingAnswer.{drawingWritten, drawingAfter}
+use Rattle.plan_texts.specs.Drawing.{dotText}
 use Rattle.policy_file.specs.Whole.{policyRefusal, AcceptedPolicy}
-use Rattle.text.specs.Answer.{textWritten, textAfter}
-use Rattle.text.specs.Listing.{planText}
+use Rattle.plan_texts.specs.TextAnswer.{textWritten, textAfter}
+use Rattle.plan_texts.specs.Listing.{planText}
 
 -- bytes made of a policy are asked for with the buffer `out`: what is answered, and what the buffer holds after the call
 pub record OfWritten (policy bytes : List ℕ) (answer : Written) (out after : List ℕ) : Type 0 where

@@ -6,14 +6,14 @@ use lib.ListN.{take}
 use Rattle.envelope_file.specs.Derive.{derivedOf}
 use Rattle.envelope_file.specs.Labels.{envelopeLabels}
 use Rattle.envelope_file.specs.Whole.{envelopeRecordsRead}
-use Rattle.dot.specs.Answer.{printedDrawing}
+use Rattle.plan_texts.specs.DrawingAnswer.{printedDrawing}
 use Rattle.faults.specs.Faults.{secondTop, illHung}
 use Rattle.fingerprint.specs.Fingerprint.{fingerprintOf}
 use Rattle.issuer_answers.specs.Issue.{issuedOf, envelopeAfter}
 use Rattle.issuer_answers.specs.Keys.{issuerKeyOf}
 use Rattle.plan_answers.specs.Weighing.{weighOf}
 use Rattle.policy_file.specs.Whole.{policyOf, policyRecordsRead}
-use Rattle.text.specs.Printed.{printed}
+use Rattle.plan_texts.specs.Printed.{printed}
 
 -- what a program reads of a file
 abbrev pub front : List ℕ → List ℕ

@@ -17,7 +17,7 @@ pub extern "C" fn yendlowa_derive(envelope: &[u8], name: &[u8]) -> Derived
 pub extern "C" fn yendlowa_labels(envelope: &[u8]) -> Labels
     ensures { λ r. ⌜ r ≡ envelopeLabels (now (envelope .entry)) ⌝ }
 {
-    desk::read_labels(envelope)
+    envelope_labels::read_labels(envelope)
 }
 
 #[no_mangle]

@@ -6,13 +6,14 @@ use outcomes::Ended;
 ghost use mathlib.Core.Bool.{false};
 ghost use mathlib.Core.Path.{_≡_};
 ghost use Rattle.decimals.specs.Text.{bytesOf};
-ghost use Rattle.verbs.specs.Tables.{takesCall};
+ghost use Rattle.verbs.specs.Tables.{takesCall, wordsOf};
+ghost use Rattle.verbs.specs.Verbs.{placeOf};
 ghost use Rattle.desk_tables.specs.Calls.{verbs};
-ghost use Rattle.desk_calls.specs.Ran.{Ran};
+ghost use Rattle.desk_calls.specs.Ran.{Performed, Ran};
 
 // Does what a verb says; the number of its arguments is right.
 fn perform(program: &[u8], verb: usize) -> Ended
-    ensures { λ r. ⌜ Ran r ⌝ }
+    ensures { λ r. ⌜ Performed verb r ⌝ }
 {
     match verb {
         0 => envelopes::derive(program),
@@ -24,7 +25,7 @@ fn perform(program: &[u8], verb: usize) -> Ended
 // A call whose first argument is this word. With a wrong number of arguments it fails, before anything is read.
 fn call(program: &[u8], word: &[u8], count: usize) -> Ended
     ensures { λ r. ⌜ (takesCall verbs (now (word .entry)) count ≡ false → r .ok ≡ false) ⌝ }
-    ensures { λ r. ⌜ Ran r ⌝ }
+    ensures { λ r. ⌜ Performed (placeOf (wordsOf verbs) (now (word .entry))) r ⌝ }
 {
     let verb = verbs::find(desk_tables::words(), word);
     if verbs::takes(desk_tables::least(), desk_tables::most(), verb, count) {

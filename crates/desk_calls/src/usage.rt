@@ -16,10 +16,7 @@ pub(crate) fn answer(program: &[u8]) -> Ended
 pub(crate) fn tell_none(program: &[u8]) -> Ended
     ensures { λ r. ⌜ Ran r ⌝ }
 {
-    messages::tell_line(
-        program,
-        b"no verb is given; 'yendlowa-desk --help' lists the verbs",
-    );
+    messages::no_verb(program);
     outcomes::failed()
 }
 
@@ -30,11 +27,6 @@ pub(crate) fn tell_wrong(program: &[u8], verb: usize, word: &[u8]) {
         let length = verbs::trimmed_length(&synopsis);
         messages::wrong_count(program, &synopsis[..length]);
     } else {
-        messages::tell_value(
-            program,
-            b"",
-            word,
-            b" is not a verb; 'yendlowa-desk --help' lists the verbs",
-        );
+        messages::not_a_verb(program, word);
     }
 }

@@ -1,64 +1,26 @@
 // One record of a key envelope, read after the records before it.
 use envelope_file::Kind;
-use format::Found;
 use format::KD;
 use format::KS;
 ghost use mathlib.Core.Path.{_≡_};
 ghost use Prim.Native.Nat.{_+_, _≤_};
 ghost use lib.ListN.{length};
-ghost use Rattle.envelope_file.specs.File.{startOf, recordNamed};
-ghost use Rattle.envelope_file.specs.Record.{nameRefusal, heldKind, underKind, envelopeKind};
+ghost use Rattle.envelope_file.specs.File.{startOf};
+ghost use Rattle.envelope_file.specs.Record.{heldKind, underKind, envelopeKind};
 ghost use Rattle.envelope_file.specs.Reads.{Located};
-
-// The first of `records` records that carries the name, or none.
-pub fn find_record(envelope: &[u8], records: usize, starts: &[usize; 64], name: [u8; 8]) -> Found
-    requires { ⌜ Located (now envelope) (now starts) records ⌝ }
-    ensures { λ r. ⌜ r ≡ recordNamed (now (envelope .entry)) records name ⌝ }
-{
-    let mut k = 0;
-    let found = loop {
-        if k == records {
-            break Found::Nothing;
-        }
-        let at = starts[k];
-        if format::same_name(format::read_name(envelope, at + 2), name) {
-            break Found::At(k);
-        }
-        k += 1;
-    };
-    found
-}
-
-// The number that the name of the record after `records` others is refused under, 0 when it is not.
-fn name_refusal(envelope: &[u8], records: usize, starts: &[usize; 64], at: usize) -> u8
-    requires { ⌜ Located (now envelope) (now starts) records × (at ≡ startOf (now envelope) records) × (at + 11 ≤ length (now envelope)) ⌝ }
-    ensures { λ r. ⌜ r ≡ nameRefusal (now (envelope .entry)) records ⌝ }
-{
-    if 64 <= records {
-        return 5;
-    }
-    let name = format::read_name(envelope, at + 2);
-    if !format::well_formed(&name) {
-        return 6;
-    }
-    match find_record(envelope, records, starts, name) {
-        Found::At(_) => 7,
-        Found::Nothing => 0,
-    }
-}
 
 // The whole `KS` record after `records` others; the first carries the header's name.
 fn read_held(envelope: &[u8], records: usize, starts: &[usize; 64], at: usize) -> Kind
     requires { ⌜ Located (now envelope) (now starts) records × (at ≡ startOf (now envelope) records) × (at + 42 ≤ length (now envelope)) ⌝ }
     ensures { λ r. ⌜ r ≡ heldKind (now (envelope .entry)) records ⌝ }
 {
-    let number = name_refusal(envelope, records, starts, at);
+    let number = envelope_names::name_refusal(envelope, records, starts, at);
     if number != 0 {
         return Kind::Refused(number);
     }
     if records == 0 {
-        let head = format::read_name(envelope, 4);
-        if !format::same_name(format::read_name(envelope, at + 2), head) {
+        let head = names::read_name(envelope, 4);
+        if !names::same_name(names::read_name(envelope, at + 2), head) {
             return Kind::Refused(18);
         }
     }
@@ -70,7 +32,7 @@ fn read_under(envelope: &[u8], records: usize, starts: &[usize; 64], at: usize) 
     requires { ⌜ Located (now envelope) (now starts) records × (at ≡ startOf (now envelope) records) × (at + 11 ≤ length (now envelope)) ⌝ }
     ensures { λ r. ⌜ r ≡ underKind (now (envelope .entry)) records ⌝ }
 {
-    let number = name_refusal(envelope, records, starts, at);
+    let number = envelope_names::name_refusal(envelope, records, starts, at);
     if number != 0 {
         return Kind::Refused(number);
     }

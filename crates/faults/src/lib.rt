@@ -14,7 +14,7 @@ fn name_found(policy: &[u8], found: Found) -> [u8; 8]
     ensures { λ r. ⌜ r ≡ nameFound (now (policy .entry)) found ⌝ }
 {
     match found {
-        Found::At(m) => format::read_name(policy, 12 * m + 2),
+        Found::At(m) => names::read_name(policy, 12 * m + 2),
         Found::Nothing => [b' '; 8],
     }
 }
@@ -42,7 +42,7 @@ fn first_no_lower(labels: usize, pairs: usize, over: [Pair; 512]) -> Found
 pub fn second_top(policy: &[u8]) -> [u8; 8]
     ensures { λ r. ⌜ r ≡ secondTop (now (policy .entry)) ⌝ }
 {
-    let stop = policy::read_to_stop(policy);
+    let stop = policy_reading::read_to_stop(policy);
     if stop.refusal != 0 {
         return [b' '; 8];
     }
@@ -79,7 +79,7 @@ pub fn ill_hung(policy: &[u8], tree: &[u8]) -> [u8; 8]
     }
     let labels = read.labels;
     let over = read.over;
-    let rows = order::order_table(labels, read.pairs, over);
+    let rows = order_table::order_table(labels, read.pairs, over);
     if tree_file::tree_refusal(labels, &rows, tree) != 12 {
         return [b' '; 8];
     }

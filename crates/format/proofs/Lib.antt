@@ -1,5 +1,4 @@
 pub mod Bytes
-pub mod Names
 pub mod Search
 pub mod Form
 pub mod Named

@@ -1,13 +1,17 @@
 // The arguments of `key`, `issue` and `root`. Wrong calls are told before any file is read or made.
+use crate::reports;
 use command::Number;
 use outcomes::Ended;
-ghost use Rattle.issuer_calls.specs.Ran.{Ran};
+ghost use Prim.Native.Nat.{ℕ};
+ghost use mathlib.Core.Bool.{false};
+ghost use mathlib.Core.Path.{_≡_};
+ghost use Rattle.issuer_calls.specs.Ran.{KeyEnds, IssueEnds, RootEnds};
 
 // `key [--fingerprint] POLICY NAME ROOT`
 pub(crate) fn key(program: &[u8], option: bool) -> Ended
-    ensures { λ r. ⌜ Ran r ⌝ }
+    ensures { λ r. ⌜ KeyEnds option r ⌝ }
 {
-    let at = key_verb::first_argument(option);
+    let at = reports::first_argument(option);
     // Longer files have the answer of their first 4,096 bytes (`key-front`, `key-root-front`, crate issuer_answers).
     let mut policy = io::buffer();
     let mut root = io::buffer();
@@ -16,14 +20,14 @@ pub(crate) fn key(program: &[u8], option: bool) -> Ended
     let name_length = arguments::name_argument(at + 1, &mut name);
     let policy_length = read.first;
     let root_length = read.second;
-    key_verb::print_key(
-        program,
+    let ended = key_verb::key(
         read.ok,
         &policy[..policy_length],
         &name[..name_length],
         &root[..root_length],
         option,
-    )
+    );
+    reports::of_key(program, &policy[..policy_length], option, ended)
 }
 
 // Whether the argument that is to name a new file is `-`, which is then told.
@@ -40,9 +44,9 @@ fn is_no_file(program: &[u8], i: usize) -> bool {
 
 // `issue`, for the account number that was read
 fn issue_to(program: &[u8], option: bool, account: u32) -> Ended
-    ensures { λ r. ⌜ Ran r ⌝ }
+    ensures { λ r. ⌜ IssueEnds option account r ⌝ }
 {
-    let at = key_verb::first_argument(option);
+    let at = reports::first_argument(option);
     if is_no_file(program, at + 4) {
         return outcomes::failed();
     }
@@ -56,7 +60,7 @@ fn issue_to(program: &[u8], option: bool, account: u32) -> Ended
     let out_length = arguments::argument(at + 4, &mut out);
     let policy_length = read.first;
     let root_length = read.second;
-    issue_verb::save_envelope(
+    let printed = issue_verb::issue(
         program,
         read.ok,
         &policy[..policy_length],
@@ -65,12 +69,13 @@ fn issue_to(program: &[u8], option: bool, account: u32) -> Ended
         &root[..root_length],
         option,
         &out[..out_length],
-    )
+    );
+    reports::of_issue(program, &policy[..policy_length], option, printed)
 }
 
 // Tells an ACCOUNT that is not a number.
 fn no_number(program: &[u8], typed: &[u8]) -> Ended
-    ensures { λ r. ⌜ Ran r ⌝ }
+    ensures { λ r. ⌜ r .ok ≡ false ⌝ }
 {
     messages::tell_value(program, b"ACCOUNT ", typed, b" is not a number");
     outcomes::failed()
@@ -78,9 +83,9 @@ fn no_number(program: &[u8], typed: &[u8]) -> Ended
 
 // `issue [--fingerprint] POLICY NAME ACCOUNT ROOT OUT`
 pub(crate) fn issue(program: &[u8], option: bool) -> Ended
-    ensures { λ r. ⌜ Ran r ⌝ }
+    ensures { λ r. ⌜ ((account : ℕ) × IssueEnds option account r) ⌝ }
 {
-    let at = key_verb::first_argument(option) + 2;
+    let at = reports::first_argument(option) + 2;
     let mut typed = io::buffer();
     let length = arguments::argument(at, &mut typed);
     // A longer one is cut here, and what was cut off may be something else than digits.
@@ -95,12 +100,12 @@ pub(crate) fn issue(program: &[u8], option: bool) -> Ended
 
 // `root OUT`
 pub(crate) fn root(program: &[u8]) -> Ended
-    ensures { λ r. ⌜ Ran r ⌝ }
+    ensures { λ r. ⌜ RootEnds r ⌝ }
 {
     if is_no_file(program, 2) {
         return outcomes::failed();
     }
     let mut out = io::buffer();
     let length = arguments::argument(2, &mut out);
-    root_verb::save_root(program, &out[..length])
+    root_verb::make_root(program, &out[..length])
 }

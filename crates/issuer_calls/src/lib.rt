@@ -1,15 +1,17 @@
 // The issuer's command line: which verb is called, and with which arguments.
 mod keys;
 mod plans;
+mod reports;
 mod usage;
 
 use outcomes::Ended;
 ghost use mathlib.Core.Bool.{false};
 ghost use mathlib.Core.Path.{_≡_};
 ghost use Rattle.decimals.specs.Text.{bytesOf};
-ghost use Rattle.verbs.specs.Tables.{takesCall};
+ghost use Rattle.verbs.specs.Tables.{takesCall, wordsOf};
+ghost use Rattle.verbs.specs.Verbs.{placeOf};
 ghost use Rattle.issuer_tables.specs.Calls.{verbs};
-ghost use Rattle.issuer_calls.specs.Ran.{Ran};
+ghost use Rattle.issuer_calls.specs.Ran.{Performed, Ran};
 
 // Whether a verb has the option `--fingerprint`, and it is given.
 fn has_option(word: &[u8]) -> bool {
@@ -19,7 +21,7 @@ fn has_option(word: &[u8]) -> bool {
 
 // Does what a verb says; the number of its arguments is right.
 fn perform(program: &[u8], verb: usize, count: usize, option: bool) -> Ended
-    ensures { λ r. ⌜ Ran r ⌝ }
+    ensures { λ r. ⌜ Performed verb r ⌝ }
 {
     match verb {
         0 => plans::plan(program, count == 3),
@@ -44,7 +46,7 @@ fn without(count: usize, option: bool) -> usize {
 // A call whose first argument is this word. With a wrong number of arguments it fails, before anything is read or made.
 fn call(program: &[u8], word: &[u8], count: usize, option: bool) -> Ended
     ensures { λ r. ⌜ (takesCall verbs (now (word .entry)) count ≡ false → r .ok ≡ false) ⌝ }
-    ensures { λ r. ⌜ Ran r ⌝ }
+    ensures { λ r. ⌜ Performed (placeOf (wordsOf verbs) (now (word .entry))) r ⌝ }
 {
     let verb = verbs::find(issuer_tables::words(), word);
     if verbs::takes(issuer_tables::least(), issuer_tables::most(), verb, count) {

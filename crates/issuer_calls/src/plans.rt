@@ -1,7 +1,8 @@
 // The arguments of `plan`, `draw` and `weigh`. Wrong calls are told before any file is read.
+use crate::reports;
 use files::Read;
 use outcomes::Ended;
-ghost use Rattle.issuer_calls.specs.Ran.{Ran};
+ghost use Rattle.issuer_calls.specs.Ran.{PlanEnds, DrawEnds, WeighEnds};
 ghost use Rattle.io.specs.Counts.{Counts};
 
 // Reads the policy that the argument after the verb names, standard input where there is none.
@@ -16,29 +17,31 @@ fn read_policy(program: &[u8], given: bool, policy: &mut [u8]) -> Read
 
 // `plan [POLICY]`
 pub(crate) fn plan(program: &[u8], given: bool) -> Ended
-    ensures { λ r. ⌜ Ran r ⌝ }
+    ensures { λ r. ⌜ PlanEnds r ⌝ }
 {
-    // More than the 2,828 bytes that decide (`printed-front`, crate text).
+    // More than the 2,828 bytes that decide (`printed-front`, crate plan_texts).
     let mut policy = io::buffer();
     let read = read_policy(program, given, &mut policy);
     let length = read.length;
-    plan_verbs::print_plan(program, read.ok, &policy[..length])
+    let ended = plan_verbs::plan(read.ok, &policy[..length]);
+    reports::of_policy(program, &policy[..length], ended)
 }
 
 // `draw [POLICY]`
 pub(crate) fn draw(program: &[u8], given: bool) -> Ended
-    ensures { λ r. ⌜ Ran r ⌝ }
+    ensures { λ r. ⌜ DrawEnds r ⌝ }
 {
-    // As for `plan` (`printed-front`, crate dot).
+    // As for `plan` (`drawing-front`, crate plan_texts).
     let mut policy = io::buffer();
     let read = read_policy(program, given, &mut policy);
     let length = read.length;
-    plan_verbs::print_drawing(program, read.ok, &policy[..length])
+    let ended = plan_verbs::draw(read.ok, &policy[..length]);
+    reports::of_policy(program, &policy[..length], ended)
 }
 
 // `weigh POLICY TREE`
 pub(crate) fn weigh(program: &[u8]) -> Ended
-    ensures { λ r. ⌜ Ran r ⌝ }
+    ensures { λ r. ⌜ WeighEnds r ⌝ }
 {
     // Longer files have the answer of their first 4,096 bytes (`weigh-front`, `weigh-tree-front`, crate plan_answers).
     let mut policy = io::buffer();
@@ -46,10 +49,11 @@ pub(crate) fn weigh(program: &[u8]) -> Ended
     let read = files::read_both(program, 2, 3, &mut policy, &mut tree);
     let policy_length = read.first;
     let tree_length = read.second;
-    plan_verbs::print_weighed(
+    let ended = plan_verbs::weigh(read.ok, &policy[..policy_length], &tree[..tree_length]);
+    reports::of_tree(
         program,
-        read.ok,
         &policy[..policy_length],
         &tree[..tree_length],
+        ended,
     )
 }

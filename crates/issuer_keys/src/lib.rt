@@ -14,7 +14,7 @@ pub fn asked_label(policy: &[u8], labels: usize, name: &[u8]) -> Found
     if name.len() != 8 {
         return Found::Nothing;
     }
-    policy_record::find_name(policy, labels, format::read_name(name, 0))
+    label_record::find_name(policy, labels, names::read_name(name, 0))
 }
 
 // The answer of `issuer_key` with a refusal.
@@ -44,7 +44,7 @@ pub fn issuer_key(policy: &[u8], name: &[u8], root: &[u8]) -> IssuerKey
             let secret = secrets::secret_of(policy, &parents, format::read_secret(root, 0), l);
             IssuerKey {
                 refusal: 0,
-                key: hmac::label_key(secret, format::read_name(policy, 12 * l + 2)),
+                key: hmac::label_key(secret, names::read_name(policy, 12 * l + 2)),
             }
         }
         Found::Nothing => refuse_key(13),

@@ -8,8 +8,8 @@ use Rattle.buffers.proofs.Handed.{handed-put}
 use Rattle.buffers.specs.Handed.{handed, handedInto}
 use Rattle.buffers.specs.Put.{Put}
 use Rattle.buffers.specs.declared.Written.{Written}
-use Rattle.shown.proofs.Hexadecimal.{hex-length}
-use Rattle.shown.specs.Hex.{hexOf}
+use Rattle.hexadecimal.proofs.Hexadecimal.{hex-length}
+use Rattle.hexadecimal.specs.Hex.{hexOf}
 
 module _ (bytes out : List ℕ) (few : length bytes ≤ 32) (room : length out ≡ 64) {w : Written} {after : List ℕ}
     (e : w ≡ handed (hexOf bytes) (length out)) (f : after ≡ handedInto (hexOf bytes) out) where

@@ -4,8 +4,8 @@ use mathlib.Core.List.{List}
 use mathlib.Core.Path.{_≡_}
 use native.Mathlib.Omega.{arith}
 use lib.ListN.{length, length-append}
-use Rattle.shown.proofs.Hexadecimal.{hex-length}
-use Rattle.shown.specs.Hex.{hexOf}
+use Rattle.hexadecimal.proofs.Hexadecimal.{hex-length}
+use Rattle.hexadecimal.specs.Hex.{hexOf}
 use Rattle.decimals.specs.Worded.{newline}
 use Rattle.lines.specs.Lines.{hexLine}
 

@@ -1,11 +1,8 @@
-// What the verbs print, as bytes in a buffer.
-mod labels;
-
-pub use labels::put_labels;
+// Keys, fingerprints and the length of an envelope as the verbs print them, as bytes in a buffer.
 ghost use Prim.Native.Nat.{_+_, _*_, _≤_, _<_};
 ghost use lib.ListN.{length};
 ghost use Rattle.buffers.specs.Put.{Put};
-ghost use Rattle.lines.specs.Lines.{hexLine, fingerprintLine, optionLine, keyText, issuedText, leastLine, weighedText};
+ghost use Rattle.lines.specs.Lines.{hexLine, fingerprintLine, optionLine, keyText, issuedText};
 
 // Writes bytes as a line of hexadecimal digits.
 pub fn put_hex(out: &mut [u8], at: usize, bytes: &[u8]) -> usize
@@ -13,7 +10,7 @@ pub fn put_hex(out: &mut [u8], at: usize, bytes: &[u8]) -> usize
     ensures { λ r. ⌜ Put (now (out .entry)) (now (out .exit)) at (hexLine (now (bytes .entry))) r ⌝ }
 {
     let mut digits = [0u8; 64];
-    let written = shown::hex(bytes, &mut digits);
+    let written = hexadecimal::hex(bytes, &mut digits);
     let length = written.length;
     let end = buffers::put_bytes(out, at, &digits[..length]);
     buffers::put_bytes(out, end, b"\n")
@@ -55,24 +52,4 @@ pub fn put_issued(out: &mut [u8], size: usize, print: [u8; 8], option: bool) -> 
 {
     let end = decimals::put_worded(out, 0, b"ISSUED", decimals::capped(size));
     put_option(out, end, print, option)
-}
-
-// Writes whether no tree has a smaller total.
-fn put_least(out: &mut [u8], at: usize, least: bool) -> usize
-    requires { ⌜ at + 16 ≤ length (now out) ⌝ }
-    ensures { λ r. ⌜ Put (now (out .entry)) (now (out .exit)) at (leastLine least) r ⌝ }
-{
-    if least {
-        return buffers::put_bytes(out, at, b"LEAST yes\n");
-    }
-    buffers::put_bytes(out, at, b"LEAST no\n")
-}
-
-// Writes what `weigh` prints.
-pub fn put_weighed(out: &mut [u8], total: u32, least: bool) -> usize
-    requires { ⌜ 64 ≤ length (now out) ⌝ }
-    ensures { λ r. ⌜ Put (now (out .entry)) (now (out .exit)) 0 (weighedText total least) r ⌝ }
-{
-    let end = decimals::put_worded(out, 0, b"TOTAL", total);
-    put_least(out, end, least)
 }

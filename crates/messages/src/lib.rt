@@ -1,37 +1,17 @@
 // What a program tells its user on standard error, in lines that open with the program's name. What the system does with them no contract can
 // say; tests/commands, tests/desk and tests/statuses compare what the programs print.
 use libc::STDERR_FILENO;
-ghost use mathlib.Core.Bool.{cond};
-ghost use mathlib.Core.Path.{_≡_};
-ghost use lib.ListN.{length};
-
-// How many bytes were written: all of them. Where the system did not take all, it is not ok, and none count.
-pub struct Printed {
-    pub ok: bool,
-    pub length: usize,
-}
-
-// What counts of bytes that were written or not.
-fn all_or_none(ok: bool, bytes: &[u8]) -> Printed
-    ensures { λ r. ⌜ r .length ≡ cond (r .ok) (length (now (bytes .entry))) 0 ⌝ }
-{
-    if ok {
-        return Printed {
-            ok: true,
-            length: bytes.len(),
-        };
-    }
-    Printed {
-        ok: false,
-        length: 0,
-    }
-}
 
 // Writes bytes to standard error.
-pub fn tell(bytes: &[u8]) -> Printed
-    ensures { λ r. ⌜ r .length ≡ cond (r .ok) (length (now (bytes .entry))) 0 ⌝ }
-{
-    all_or_none(io::write_all(STDERR_FILENO, bytes), bytes)
+pub fn tell(bytes: &[u8]) {
+    io::write_all(STDERR_FILENO, bytes);
+}
+
+// Writes the front of a buffer to standard error.
+pub fn tell_front(buffer: &[u8], length: usize) {
+    if length <= buffer.len() {
+        tell(&buffer[..length]);
+    }
 }
 
 // Opens a line on standard error.
@@ -45,9 +25,8 @@ pub fn tell_quoted(value: &[u8]) {
     // Room for every argument, of which 4,096 bytes are read at the most.
     let mut shown = io::buffer();
     let written = shown::show(value, &mut shown);
-    let length = written.length;
     tell(b"'");
-    tell(&shown[..length]);
+    tell_front(&shown, written.length);
     tell(b"'");
 }
 
@@ -56,6 +35,28 @@ pub fn tell_line(program: &[u8], text: &[u8]) {
     open_line(program);
     tell(text);
     tell(b"\n");
+}
+
+// Ends a line by how to learn the verbs.
+fn tell_help(program: &[u8]) {
+    tell(b"; '");
+    tell(program);
+    tell(b" --help' lists the verbs\n");
+}
+
+// Tells that no verb is given.
+pub fn no_verb(program: &[u8]) {
+    open_line(program);
+    tell(b"no verb is given");
+    tell_help(program);
+}
+
+// Tells that a word is not a verb.
+pub fn not_a_verb(program: &[u8], word: &[u8]) {
+    open_line(program);
+    tell_quoted(word);
+    tell(b" is not a verb");
+    tell_help(program);
 }
 
 // Tells that a verb was called with too few or too many arguments, and how to call it.

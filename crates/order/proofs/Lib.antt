@@ -2,7 +2,6 @@
 pub mod Lists
 pub mod Order
 pub mod Table
-pub mod Turns
 pub mod Exact
 pub mod Laws
 pub mod Example

@@ -8,7 +8,7 @@ use lib.Dec.{eqb}
 use lib.ListN.{getD, replicate, set}
 use Rattle.order.specs.declared.Pair.{Pair}
 
--- entry l of row m, and no past the table's ends; of the order table: whether label m is at or below label l; of the order table: whether label m is at or below label l
+-- entry l of row m, and no past the table's ends; of the order table: whether label m is at or below label l
 abbrev pub entryAt : List (List Bool) → ℕ → ℕ → Bool
 entryAt rows m l = getD (getD rows m []) l false
 

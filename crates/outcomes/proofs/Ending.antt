@@ -1,16 +1,18 @@
 -- Which status goes with which kind of answer.
 use Prim.Native.Nat.{ℕ, _<_}
-use mathlib.Core.Bool.{Bool, true, false, not, false≢true}
+use mathlib.Core.Bool.{Bool, true, false, false≢true}
 use mathlib.Core.List.{List}
 use mathlib.Core.Logic.{_≢_, inl, inr}
 use mathlib.Core.Path.{_≡_, refl, sym, ap, _∙_}
+use native.Mathlib.Decide.{ℕ-discrete}
 use native.Mathlib.Omega.{arith}
 use borrow.Author.Tests.{eq-eqb, ne-eqb}
 use lib.Dec.{eqb}
 use lib.IntN.{pos}
+use lib.ListN.{take}
 use Rattle.decimals.proofs.Printed.{printed-accepted, printed-refused}
-use Rattle.decimals.specs.Worded.{refusedText}
-use Rattle.outcomes.specs.Status.{statusOf, IsStatus, Said, Ends}
+use Rattle.decimals.specs.Worded.{refusedText, printedUnless}
+use Rattle.outcomes.specs.Status.{statusOf, IsStatus, Said, Ends, Printed}
 use Rattle.outcomes.specs.declared.Ended.{Ended}
 
 pub status-known : (e : Ended) → IsStatus (statusOf e)
@@ -46,25 +48,41 @@ not-both f t = absurd (false≢true (sym f ∙ t))
 pub said-as : (refusal : ℕ) {s t : List ℕ} (e : Ended) → s ≡ t → Said refusal s e → Said refusal t e
 said-as refusal e same said ok = (said ok .0, said ok .1 ∙ same)
 
+-- what is so of a call that is to be printed, and of every failed call, is so of the call that was printed
+pub printed-as : (P : Ended → Type 0) → ((x : Ended) → x .ok ≡ false → P x) → {e r : Ended} → Printed e r → P e → P r
+printed-as P none {e} {r} same held = go (r .ok) refl
+  where
+    go : (done : Bool) → r .ok ≡ done → P r
+    go false o = none r o
+    go true o = rw (same o) held
+
+-- what was printed was said
+pub said-printed : (refusal : ℕ) (text : List ℕ) {e r : Ended} → Printed e r → Said refusal text e → Said refusal text r
+said-printed refusal text = printed-as (Said refusal text) (λ x f. not-both f)
+
+-- what is not refused says the answer
+pub ends-said : (answer : List ℕ) (e : Ended) → Ends 0 answer e → Said 0 answer e
+ends-said answer e ends = said-as 0 e (printed-accepted answer refl) ends
+
 module _ (refusal : ℕ) (answer : List ℕ) (e : Ended) where
   -- an answer, or a refusal, that was said is how the call of the operation ends
   pub ends-answered : refusal ≡ 0 → Said 0 answer e → Ends refusal answer e
   ends-answered z said o = (said o .0 ∙ sym z, said o .1 ∙ sym (printed-accepted answer z))
 
   pub ends-refused : 0 < refusal → Said refusal (refusedText refusal) e → Ends refusal answer e
-  ends-refused h said o = (said o .0, said o .1 ∙ sym (printed-refused answer h))
+  ends-refused h said = said-as refusal e (sym (printed-refused answer h)) said
 
-  -- a call whose files could not be read, and one whose files could
-  pub ends-unread : {read : Bool} → e .ok ≡ false → (read ≡ false → e .ok ≡ false) × Ends refusal answer e
-  ends-unread f = (λ _. f, not-both f)
+  -- a call that is refused says the line of its number
+  pub ends-refusing : Ends refusal answer e → e .ok ≡ true → e .refusal ≢ 0 → take (e .printed) (e .text) ≡ refusedText (e .refusal)
+  ends-refusing ends ok nz =
+      let same : e .refusal ≡ refusal = ends ok .0 in
+      let some : 0 < refusal = omega (arith, same, nz) in
+      ends ok .1 ∙ printed-refused answer some ∙ ap refusedText (sym same)
 
-  pub ends-read : (read : Bool) → not read ≡ false → Ends refusal answer e → (read ≡ false → e .ok ≡ false) × Ends refusal answer e
-  ends-read read r ends = (λ z. not-both r (ap not z), ends)
-
--- a call that goes by what its operation answered: `found`, where the definition says `due`
-module _ {A : Type 0} (refusal : A → ℕ) (text : A → List ℕ) {found due : A} (same : found ≡ due) (e : Ended) where
-  pub told-refused : (refusal found ≡ 0 → ⊥) → Said (refusal found) (refusedText (refusal found)) e → Ends (refusal due) (text due) e
-  told-refused nz said = rw (← same) (ends-refused (refusal found) (text found) e (omega arith) said)
-
-  pub told-answered : refusal found ≡ 0 → Said 0 (text found) e → Ends (refusal due) (text due) e
-  told-answered z said = rw (← same) (ends-answered (refusal found) (text found) e z said)
+  -- with a refusal the answer does not matter
+  pub ends-as : (due : List ℕ) → (refusal ≡ 0 → answer ≡ due) → Ends refusal answer e → Ends refusal due e
+  ends-as due same ends = said-as refusal e (go (ℕ-discrete refusal 0)) ends
+    where
+      go : Dec (refusal ≡ 0) → printedUnless refusal answer ≡ printedUnless refusal due
+      go (yes z) = printed-accepted answer z ∙ same z ∙ sym (printed-accepted due z)
+      go (no ne) = let h : 0 < refusal = omega arith in printed-refused answer h ∙ sym (printed-refused due h)

@@ -18,10 +18,14 @@ statusOf e = cond (e .ok) (cond (eqb (e .refusal) 0) (pos 0) (pos 1)) (pos 2)
 abbrev pub IsStatus : ℤ → Type 0
 IsStatus r = (r ≡ pos 0) ⊎ (r ≡ pos 1) ⊎ (r ≡ pos 2)
 
--- If the call was done, it ended with this refusal, or 0, and this text was handed to standard output.
+-- If the call was done, it ends with this refusal, or 0, and says this text.
 abbrev pub Said : (refusal : ℕ) (text : List ℕ) → Ended → Type 0
 Said refusal text e = e .ok ≡ true → (e .refusal ≡ refusal) × (take (e .printed) (e .text) ≡ text)
 
 -- a call whose operation refuses so, and answers this where it does not refuse: "an answer", or "`REFUSED n` on standard output"
 abbrev pub Ends : (refusal : ℕ) (answer : List ℕ) → Ended → Type 0
 Ends refusal answer e = Said refusal (printedUnless refusal answer) e
+
+-- what printing leaves of a call: it ended as it was to end, or has failed
+abbrev pub Printed : Ended → Ended → Type 0
+Printed e r = r .ok ≡ true → r ≡ e

@@ -1,10 +1,13 @@
-// How a call of a program ended, and the exit status that a script sees.
-ghost use mathlib.Core.Bool.{false};
+// How a call of a program ended, and the exit status that a script sees. Nothing here prints.
+ghost use Prim.Native.Nat.{_≤_};
+ghost use mathlib.Core.Bool.{true, false};
 ghost use mathlib.Core.Path.{_≡_};
-ghost use Rattle.outcomes.specs.Status.{statusOf, Said};
+ghost use lib.ListN.{length};
+ghost use Rattle.decimals.specs.Worded.{refusedText};
+ghost use Rattle.outcomes.specs.Status.{statusOf, Said, Ends, Printed};
 
-// How a call ended. `ok`: it was done, that is, the call was right, files were read or made, and standard output took the first `printed` bytes of
-// `text`. `refusal`: the number of the refusal, or 0.
+// How a call ends. `ok`: it was done, that is, the call was right and its files were read or made; once it is printed, standard output took its text too.
+// `refusal`: the number of the refusal, or 0. What it says is the first `printed` bytes of `text`.
 pub struct Ended {
     pub ok: bool,
     pub refusal: u8,
@@ -37,19 +40,59 @@ pub fn failed() -> Ended
     }
 }
 
-// A call that ended with a refusal, or 0, and a text that standard output took, or did not. No answer is longer than 8,192 bytes.
-pub fn ended_with(ok: bool, refusal: u8, text: &[u8]) -> Ended
-    ensures { λ r. ⌜ (ok ≡ false → r .ok ≡ false) × Said refusal (now (text .entry)) r ⌝ }
+// A call that is done, with a refusal or 0, and says a text.
+fn say(refusal: u8, text: &[u8]) -> Ended
+    requires { ⌜ length (now text) ≤ 8192 ⌝ }
+    ensures { λ r. ⌜ (r .ok ≡ true) × Said refusal (now (text .entry)) r ⌝ }
 {
-    if 8192 < text.len() {
-        return failed();
-    }
     let mut kept = [0u8; 8192];
     let printed = buffers::put_bytes(&mut kept, 0, text);
     Ended {
-        ok,
+        ok: true,
         refusal,
         printed,
         text: kept,
     }
+}
+
+// A call that is refused.
+fn refuse(number: u8) -> Ended
+    ensures { λ r. ⌜ (r .ok ≡ true) × Said number (refusedText number) r ⌝ }
+{
+    let mut line = [0u8; 32];
+    let written = decimals::refused_text(number, &mut line);
+    let end = written.length;
+    say(number, &line[..end])
+}
+
+// A call that is done, of an operation that refuses so, or else answers this text.
+fn conclude(refusal: u8, answer: &[u8]) -> Ended
+    requires { ⌜ length (now answer) ≤ 8192 ⌝ }
+    ensures { λ r. ⌜ (r .ok ≡ true) × Ends refusal (now (answer .entry)) r ⌝ }
+{
+    if refusal != 0 {
+        return refuse(refusal);
+    }
+    say(0, answer)
+}
+
+// A call of an operation that refuses so, or else answers this text. `ok`: whether all that had to be read or made was; if not, it says nothing.
+pub fn ended_with(ok: bool, refusal: u8, answer: &[u8]) -> Ended
+    requires { ⌜ length (now answer) ≤ 8192 ⌝ }
+    ensures { λ r. ⌜ (r .ok ≡ ok) × Ends refusal (now (answer .entry)) r ⌝ }
+{
+    if ok {
+        return conclude(refusal, answer);
+    }
+    failed()
+}
+
+// What printing leaves of a call: the call itself if standard output took its text, else one that failed.
+pub fn printed(taken: bool, ended: Ended) -> Ended
+    ensures { λ r. ⌜ (taken ≡ false → r .ok ≡ false) × Printed ended r ⌝ }
+{
+    if taken {
+        return ended;
+    }
+    failed()
 }

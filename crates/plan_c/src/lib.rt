@@ -6,8 +6,8 @@ ghost use mathlib.Core.Path.{_≡_};
 ghost use lib.ListN.{length};
 ghost use Rattle.plan_answers.specs.Planned.{planOf};
 ghost use Rattle.plan_answers.specs.Weighing.{weighOf};
-ghost use Rattle.text.specs.Answer.{textWritten, textAfter};
-ghost use Rattle.dot.specs.Answer.{drawingWritten, drawingAfter};
+ghost use Rattle.plan_texts.specs.TextAnswer.{textWritten, textAfter};
+ghost use Rattle.plan_texts.specs.DrawingAnswer.{drawingWritten, drawingAfter};
 
 #[no_mangle]
 pub extern "C" fn yendlowa_plan(policy: &[u8]) -> Plan
@@ -20,7 +20,7 @@ pub extern "C" fn yendlowa_plan(policy: &[u8]) -> Plan
 pub extern "C" fn yendlowa_weigh(policy: &[u8], tree: &[u8]) -> Weighed
     ensures { λ r. ⌜ r ≡ weighOf (now (policy .entry)) (now (tree .entry)) ⌝ }
 {
-    planner::weigh(policy, tree)
+    weighing::weigh(policy, tree)
 }
 
 #[no_mangle]

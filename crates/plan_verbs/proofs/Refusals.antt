@@ -1,4 +1,4 @@
--- A call that answers what was handed out into a buffer with room, and is refused where that was; any text.
+-- A call that ends by what was handed out into a buffer with room; any text.
 use Prim.Native.Nat.{ℕ, _≤_, _<_}
 use mathlib.Core.List.{List}
 use mathlib.Core.Path.{_≡_, sym, ap, _∙_}
@@ -10,9 +10,8 @@ use Rattle.buffers.proofs.Unless.{unless-given}
 use Rattle.buffers.proofs.Writes.{put-front}
 use Rattle.buffers.specs.Handed.{writtenUnless, bufferUnless}
 use Rattle.buffers.specs.declared.Written.{Written}
-use Rattle.decimals.specs.Worded.{refusedText}
-use Rattle.outcomes.proofs.Ending.{ends-answered, ends-refused}
-use Rattle.outcomes.specs.Status.{Said, Ends}
+use Rattle.outcomes.proofs.Ending.{ends-as}
+use Rattle.outcomes.specs.Status.{Ends}
 use Rattle.outcomes.specs.declared.Ended.{Ended}
 
 module _ (refusal : ℕ) (s out : List ℕ) (room : length s ≤ length out) {w : Written} (answer : w ≡ writtenUnless refusal s (length out)) where
@@ -23,12 +22,8 @@ module _ (refusal : ℕ) (s out : List ℕ) (room : length s ≤ length out) {w 
       go (yes none) = ap (λ (v : Written). v .refusal) (unless-given refusal none s (length out) room) ∙ sym none
       go (no ne) = let some : 0 < refusal = omega arith in ap (λ (v : Written). v .refusal) (unless-refused s (length out) some)
 
-  pub written-refused : (w .refusal ≡ 0 → ⊥) → (e : Ended) → Said (w .refusal) (refusedText (w .refusal)) e → Ends refusal s e
-  written-refused nz e said = ends-refused refusal s e (omega (arith, number)) (rw number at said)
-
-  pub written-answered : {after : List ℕ} → after ≡ bufferUnless refusal s out → w .refusal ≡ 0 → (e : Ended) → Said 0 (take (w .length) after) e
-      → Ends refusal s e
-  written-answered left z e said =
-      let none : refusal ≡ 0 = sym number ∙ z in
-      let put = handed-put s out room (answer ∙ unless-none s (length out) none) (left ∙ unless-into s out none) in
-      ends-answered refusal s e none (rw (put-front put) at said)
+  pub written-ends : {after : List ℕ} → after ≡ bufferUnless refusal s out → (e : Ended) → Ends (w .refusal) (take (w .length) after) e → Ends refusal s e
+  written-ends {after} left e ends = ends-as refusal (take (w .length) after) e s same (rw number at ends)
+    where
+      same : refusal ≡ 0 → take (w .length) after ≡ s
+      same none = put-front (handed-put s out room (answer ∙ unless-none s (length out) none) (left ∙ unless-into s out none))

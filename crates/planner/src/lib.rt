@@ -1,58 +1,7 @@
-// The plan of a policy file, and the weighing of an offered tree.
+// The plan of a policy file.
 use plan_answers::Plan;
-use plan_answers::Weighed;
 ghost use mathlib.Core.Path.{_≡_};
-ghost use Prim.Native.Nat.{_≤_};
-ghost use Rattle.order.specs.Table.{entryAt};
-ghost use Rattle.trees.specs.Weights.{total};
-ghost use Rattle.weights.specs.Tables.{entries, Rowed, Falls};
-ghost use Rattle.plan_answers.specs.Planned.{planned, planOf, refusedPlan, rowsAfter};
-ghost use Rattle.plan_answers.specs.Weighing.{refusedWeighed, treeWeighed, weighOf};
-
-// The total of a tree: accounts times size of the smallest set, summed.
-fn total_of(labels: usize, counts: &[u16; 64], rows: &[[bool; 64]; 64], parents: &[u8; 64]) -> u32
-    requires { ⌜ (labels ≤ 64) × Rowed labels (now parents) ⌝ }
-    ensures { λ r. ⌜ r ≡ total labels (entries (now (counts .entry))) (entryAt (now (rows .entry))) (entries (now (parents .entry))) ⌝ }
-{
-    let sizes = sets::set_sizes(labels, rows, parents);
-    sets::total_keys(labels, counts, &sizes)
-}
-
-// The plan of labels with their accounts and order.
-fn plan_labels(refusal: u8, labels: usize, counts: &[u16; 64], rows: &[[bool; 64]; 64]) -> Plan
-    requires { ⌜ (labels ≤ 64) × Falls (entryAt (now rows)) ⌝ }
-    ensures { λ r. ⌜ r ≡ planned refusal labels (entries (now (counts .entry))) (entryAt (now (rows .entry))) ⌝ }
-{
-    let chosen = weights::choose(labels, counts, rows);
-    let parents = chosen.parents;
-    let held = chosen.weights;
-    let sizes = sets::set_sizes(labels, rows, &parents);
-    let total = sets::total_keys(labels, counts, &sizes);
-    Plan {
-        refusal,
-        zeros: [0u8; 3],
-        total,
-        labels,
-        parents,
-        weights: held,
-        sizes,
-    }
-}
-
-// The plan with a refusal.
-fn refused_plan(number: u8) -> Plan
-    ensures { λ r. ⌜ r ≡ refusedPlan number ⌝ }
-{
-    Plan {
-        refusal: number,
-        zeros: [0u8; 3],
-        total: 0,
-        labels: 0,
-        parents: [0u8; 64],
-        weights: [0u32; 64],
-        sizes: [0u8; 64],
-    }
-}
+ghost use Rattle.plan_answers.specs.Planned.{planOf, rowsAfter};
 
 // The plan of a policy, or the number of its refusal, and the order of an accepted policy's labels into `rows`.
 pub fn plan_order(policy: &[u8], rows: &mut [[bool; 64]; 64]) -> Plan
@@ -60,13 +9,13 @@ pub fn plan_order(policy: &[u8], rows: &mut [[bool; 64]; 64]) -> Plan
 {
     let read = policy::read_policy(policy);
     if read.refusal != 0 {
-        return refused_plan(read.refusal);
+        return plans::refused_plan(read.refusal);
     }
     let counts = read.counts;
     let over = read.over;
-    let table = order::order_table(read.labels, read.pairs, over);
+    let table = order_table::order_table(read.labels, read.pairs, over);
     *rows = table;
-    plan_labels(read.refusal, read.labels, &counts, &table)
+    plans::plan_labels(read.refusal, read.labels, &counts, &table)
 }
 
 // The plan of a policy, or the number of its refusal.
@@ -75,58 +24,4 @@ pub fn plan_policy(policy: &[u8]) -> Plan
 {
     let mut rows = [[false; 64]; 64];
     plan_order(policy, &mut rows)
-}
-
-// The answer with a refusal.
-fn refused(number: u8) -> Weighed
-    ensures { λ r. ⌜ r ≡ refusedWeighed number ⌝ }
-{
-    Weighed {
-        refusal: number,
-        least: false,
-        zeros: [0u8; 2],
-        total: 0,
-    }
-}
-
-// The total of a tree, and whether it is that of the chosen parents.
-fn weigh_tree(
-    labels: usize,
-    counts: &[u16; 64],
-    rows: &[[bool; 64]; 64],
-    offered: &[u8; 64],
-) -> Weighed
-    requires { ⌜ (labels ≤ 64) × Falls (entryAt (now rows)) × Rowed labels (now offered) ⌝ }
-    ensures { λ r. ⌜ r ≡ treeWeighed labels (entries (now (counts .entry))) (entryAt (now (rows .entry))) (entries (now (offered .entry))) ⌝ }
-{
-    let best = weights::choose(labels, counts, rows);
-    let planned = best.parents;
-    let fewest = total_of(labels, counts, rows, &planned);
-    let total = total_of(labels, counts, rows, offered);
-    Weighed {
-        refusal: 0,
-        least: total == fewest,
-        zeros: [0u8; 2],
-        total,
-    }
-}
-
-// The total of the tree that is offered, and whether it is the fewest; a refusal of the policy comes before one of the tree file.
-pub fn weigh(policy: &[u8], tree: &[u8]) -> Weighed
-    ensures { λ r. ⌜ r ≡ weighOf (now (policy .entry)) (now (tree .entry)) ⌝ }
-{
-    let read = policy::read_policy(policy);
-    if read.refusal != 0 {
-        return refused(read.refusal);
-    }
-    let labels = read.labels;
-    let counts = read.counts;
-    let over = read.over;
-    let rows = order::order_table(labels, read.pairs, over);
-    let number = tree_file::tree_refusal(labels, &rows, tree);
-    if number != 0 {
-        return refused(number);
-    }
-    let offered = tree_file::read_parents(labels, tree);
-    weigh_tree(labels, &counts, &rows, &offered)
 }

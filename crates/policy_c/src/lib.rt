@@ -22,7 +22,7 @@ pub extern "C" fn yendlowa_read_policy(policy: &[u8]) -> Policy
 pub extern "C" fn yendlowa_policy_records(policy: &[u8]) -> usize
     ensures { λ r. ⌜ r ≡ policyRecordsRead (now (policy .entry)) ⌝ }
 {
-    policy::records_read(policy)
+    policy_reading::records_read(policy)
 }
 
 // The rows of an order table one after the other.
@@ -32,7 +32,7 @@ fn in_line(table: &[[bool; 64]; 64]) -> [bool; 4096]
     let mut line = [false; 4096];
     let mut i = 0;
     while i < 4096 {
-        line[i] = order::at_or_below(table, i / 64, i % 64);
+        line[i] = order_table::at_or_below(table, i / 64, i % 64);
         i += 1;
     }
     line
@@ -44,7 +44,7 @@ pub extern "C" fn yendlowa_order(policy: &[u8]) -> Rows
 {
     let read = policy::read_policy(policy);
     let over = read.over;
-    let table = order::order_table(read.labels, read.pairs, over);
+    let table = order_table::order_table(read.labels, read.pairs, over);
     let line = in_line(&table);
     Rows {
         refusal: read.refusal,

@@ -1,18 +1,15 @@
-// What the issuer's program says of a policy or a tree file that is refused: the number on standard output, the reason on standard error.
-use outcomes::Ended;
-ghost use Rattle.decimals.specs.Worded.{refusedText};
-ghost use Rattle.outcomes.specs.Status.{Said};
+// Why a call of the issuer's program is refused, on standard error.
 
 // Tells why a file is refused at one of its labels.
 fn tell_label(program: &[u8], file: &[u8], label: [u8; 8], number: u8) {
-    let length = format::unpadded_length(&label);
+    let length = names::unpadded_length(&label);
     reasons::tell_named(program, file, &label[..length], number);
 }
 
 // Tells why a policy is refused. One whose first record is read is not a text.
-fn tell_policy(program: &[u8], policy: &[u8], number: u8) {
-    let read = policy::records_read(policy);
-    if read == 0 && shown::is_text(policy) {
+pub fn tell_policy(program: &[u8], policy: &[u8], number: u8) {
+    let read = policy_reading::records_read(policy);
+    if read == 0 && text_file::is_text(policy) {
         messages::tell_line(
             program,
             b"policy file: this is a text; 'yendlowa-encode policy TEXT OUT' makes a policy file from it",
@@ -29,8 +26,8 @@ fn tell_policy(program: &[u8], policy: &[u8], number: u8) {
     }
 }
 
-// Tells why a tree file is refused. One that has its mark and its length is not a text.
-fn tell_tree(program: &[u8], policy: &[u8], tree: &[u8], number: u8) {
+// Tells why a tree file is refused, by a policy that is accepted. One that has its mark and its length is not a text.
+fn tell_tree_file(program: &[u8], policy: &[u8], tree: &[u8], number: u8) {
     if number == 12 {
         tell_label(
             program,
@@ -38,7 +35,7 @@ fn tell_tree(program: &[u8], policy: &[u8], tree: &[u8], number: u8) {
             faults::ill_hung(policy, tree),
             number,
         );
-    } else if shown::is_text(tree) {
+    } else if text_file::is_text(tree) {
         messages::tell_line(
             program,
             b"tree file: this is a text; 'yendlowa-encode tree POLICYTEXT TREETEXT OUT' makes a tree file from it",
@@ -48,24 +45,20 @@ fn tell_tree(program: &[u8], policy: &[u8], tree: &[u8], number: u8) {
     }
 }
 
-// Says that a policy is refused.
-pub fn policy_refused(program: &[u8], policy: &[u8], number: u8) -> Ended
-    ensures { λ r. ⌜ Said number (refusedText number) r ⌝ }
-{
-    let said = answers::refuse(program, number);
-    if said.ok {
+// Tells what `weigh` refuses, the policy before the tree file.
+pub fn tell_tree(program: &[u8], policy: &[u8], tree: &[u8], number: u8) {
+    if policy::read_policy(policy).refusal != 0 {
         tell_policy(program, policy, number);
+    } else {
+        tell_tree_file(program, policy, tree, number);
     }
-    said
 }
 
-// Says that a tree file is refused, by a policy that is accepted.
-pub fn tree_refused(program: &[u8], policy: &[u8], tree: &[u8], number: u8) -> Ended
-    ensures { λ r. ⌜ Said number (refusedText number) r ⌝ }
-{
-    let said = answers::refuse(program, number);
-    if said.ok {
-        tell_tree(program, policy, tree, number);
+// Tells what `key` or `issue` refuses: the policy, or else the argument that the number speaks of.
+pub fn tell_asked(program: &[u8], policy: &[u8], number: u8, argument: usize) {
+    if policy::read_policy(policy).refusal != 0 {
+        tell_policy(program, policy, number);
+    } else {
+        arguments::tell_argument(program, argument, number);
     }
-    said
 }

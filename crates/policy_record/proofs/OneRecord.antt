@@ -1,52 +1,19 @@
--- Laws of one record: its kind by the tests that led there, and what each kind tells of the file.
-use Prim.Native.Nat.{ℕ, _+_, _*_, _-_, _≤_, _<_}
+-- Laws of one record: its kind by the tests that led there, and that an over-pair has no name beside it.
+use Prim.Native.Nat.{ℕ, _-_, _≤_, _<_}
 use mathlib.Core.Bool.{Bool, true, false, cond}
 use mathlib.Core.List.{List}
 use mathlib.Core.Path.{_≡_, refl}
 use lib.Dec.{leb}
 use lib.ListN.{length}
-use borrow.Author.Tests.{le-leb, lt-leb, lt-ltb, le-ltb, eq-eqb, ne-eqb}
+use borrow.Author.Tests.{lt-ltb, le-ltb, eq-eqb, ne-eqb}
 use Rattle.format.proofs.Bytes.{same-eq}
 use Rattle.format.specs.Bytes.{bytesAt, sameBytes}
 use Rattle.format.specs.Marks.{LB, OV}
-use Rattle.format.specs.Names.{wellFormed}
-use Rattle.format.specs.declared.Found.the-variants.{At, Nothing}
 use Rattle.order.specs.declared.Pair.{Pair}
-use Rattle.policy_file.specs.File.{placeOf, nameOf, isNamed, countOf, pairAt, labelNamed}
+use Rattle.policy_file.specs.File.{placeOf, pairAt}
 use Rattle.policy_file.specs.Record.{labelKind, overKind, markedKind, policyKind, unnamedOf, withName}
-use Rattle.policy_file.specs.declared.Kind.the-variants.{Label, Over, End, Refused}
+use Rattle.policy_file.specs.declared.Kind.the-variants.{Over, End, Refused}
 use Rattle.policy_file.specs.declared.Kind.{Kind}
-
--- a comparison with label i's name, once that is read
-pub named : (file name read : List ℕ) (i : ℕ) → read ≡ bytesAt file (12 * i + 2) 8 → isNamed file name i ≡ sameBytes read name
-unfolding isNamed nameOf
-named file name read i e = rw e
-
--- what holds of both sides of a test holds of what the test picks
-pub either : (P : Kind → Type 0) (b : Bool) (x y : Kind) → (b ≡ true → P x) → (b ≡ false → P y) → P (cond b x y)
-either P true x y f g = f refl
-either P false x y f g = g refl
-
--- the next label, by the tests that led there
-module _ (file : List ℕ) (labels : ℕ) where
-  pub label-many : 64 ≤ labels → labelKind file labels ≡ Refused 5
-  unfolding labelKind
-  label-many h = rw (le-leb 64 labels h)
-
-  module _ (few : labels < 64) where
-    pub label-unformed : wellFormed (nameOf file labels) ≡ false → labelKind file labels ≡ Refused 6
-    unfolding labelKind
-    label-unformed e = rw (lt-leb 64 labels few, e)
-
-    pub label-carried : wellFormed (nameOf file labels) ≡ true → (i : ℕ) → labelNamed file labels (nameOf file labels) ≡ At i
-        → labelKind file labels ≡ Refused 7
-    unfolding labelKind
-    label-carried e i found = rw (lt-leb 64 labels few, e, found)
-
-    pub label-new : wellFormed (nameOf file labels) ≡ true → labelNamed file labels (nameOf file labels) ≡ Nothing
-        → labelKind file labels ≡ Label (countOf file labels)
-    unfolding labelKind
-    label-new e found = rw (lt-leb 64 labels few, e, found)
 
 -- the record after so many labels and pairs, by the tests that led there
 module _ (file : List ℕ) (labels pairs : ℕ) where
@@ -97,6 +64,11 @@ module _ (file : List ℕ) (labels pairs : ℕ) where
     pub over-read : 4 ≤ left → markedKind file labels pairs left ≡ overKind file labels pairs
     unfolding markedKind
     over-read h = rw (no-label, ov, le-ltb left 4 h)
+
+-- what holds of both sides of a test holds of what the test picks
+either : (P : Kind → Type 0) (b : Bool) (x y : Kind) → (b ≡ true → P x) → (b ≡ false → P y) → P (cond b x y)
+either P true x y f g = f refl
+either P false x y f g = g refl
 
 -- an over-pair has no name beside it
 abbrev Unnamed : List ℕ → ℕ → Kind → Type 0

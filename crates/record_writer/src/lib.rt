@@ -54,7 +54,7 @@ pub fn put_record(
     requires { ⌜ (m < 64) × (12 * (m + 1) ≤ length (now policy)) × (at + length (labelRecord held (nameOf (now policy) m) secret place) ≤ length (now out)) ⌝ }
     ensures { λ r. ⌜ Put (now (out .entry)) (now (out .exit)) at (labelRecord held (nameOf (now (policy .entry)) m) secret place) r ⌝ }
 {
-    let name = format::read_name(policy, 12 * m + 2);
+    let name = names::read_name(policy, 12 * m + 2);
     if held {
         return put_held(out, at, name, secret);
     }

@@ -39,7 +39,7 @@ fn next_secret(
     }
     let parent = parents[m] as usize;
     let above = secrets[parent];
-    hmac::child_secret(above, format::read_name(policy, 12 * m + 2))
+    hmac::child_secret(above, names::read_name(policy, 12 * m + 2))
 }
 
 // The secrets of the held labels, and of those that they hang from, each made once from its parent's. What stands in other entries is free: no one reads them.

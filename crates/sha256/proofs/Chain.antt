@@ -7,8 +7,10 @@ use native.Mathlib.Numerals.{add-one}
 use native.Mathlib.Omega.{arith}
 use lib.ListN.{length, take, drop, length-append, length-drop, drop-of-length-le}
 use lib.Seq.{take-all, take-append-le, drop-append-le, drop-drop}
-use Rattle.compression.specs.Compression.{initial, compressed}
-use Rattle.sha256.specs.Sha256.{padding, block, chained, digestFrom, hash}
+use Rattle.sha256_constants.specs.Constants.{initial}
+use Rattle.compression.specs.Compression.{compressed}
+use Rattle.padding.specs.Padding.{padding}
+use Rattle.sha256.specs.Sha256.{block, chained, digestFrom, hash}
 
 -- a whole block of m is that block of a longer message
 block-front : (m s : List ℕ) (i : ℕ) → 64 * i + 64 ≤ length m → block (m ++ s) i ≡ block m i

@@ -2,8 +2,10 @@
 use mathlib.Core.Path.{_≡_, refl}
 use mathlib.Core.List.{[], _∷_}
 use Rattle.words.specs.Words.{rotr, bigSigma0, bigSigma1, smallSigma0, smallSigma1}
-use Rattle.compression.specs.Compression.{roundWords, initial, words, extended, schedule, roundOf, rounds, compressed}
-use Rattle.sha256.specs.Sha256.{wordBytes, lengthBlock, padding, block, chained, joined, digestFrom, hash}
+use Rattle.sha256_constants.specs.Constants.{roundWords, initial}
+use Rattle.compression.specs.Compression.{words, extended, schedule, roundOf, rounds, compressed}
+use Rattle.padding.specs.Padding.{wordBytes, lengthBlock, padding}
+use Rattle.sha256.specs.Sha256.{block, chained, joined, digestFrom, hash}
 
 pub abc : hash (0x61 ∷ 0x62 ∷ 0x63 ∷ [])
     ≡ 0xba ∷ 0x78 ∷ 0x16 ∷ 0xbf ∷ 0x8f ∷ 0x01 ∷ 0xcf ∷ 0xea ∷ 0x41 ∷ 0x41 ∷ 0x40 ∷ 0xde ∷ 0x5d ∷ 0xae ∷ 0x22 ∷ 0x23

@@ -5,8 +5,9 @@ use Prim.Native.Nat.{ℕ, zero, suc, _/_, _%_, _^_, _<_}
 use native.Mathlib.Omega.{arith}
 use lib.Dec.{lit<}
 use lib.ListN.{length, getD}
-use Rattle.compression.specs.Compression.{initial}
-use Rattle.sha256.specs.Sha256.{wordBytes, padding, chained, joined, digestFrom, hash}
+use Rattle.sha256_constants.specs.Constants.{initial}
+use Rattle.padding.specs.Padding.{wordBytes, padding}
+use Rattle.sha256.specs.Sha256.{chained, joined, digestFrom, hash}
 use Rattle.sha256.proofs.Joined.{joined-length}
 use Rattle.sha256.proofs.Lists.{Bytes, bytes-append}
 

@@ -6,12 +6,10 @@ use native.Mathlib.Numerals.{add-one}
 use native.Mathlib.Omega.{arith}
 use lib.ListN.{length, getD, length-append}
 use Rattle.lists.specs.Buffer.{pasted, zeroFilled}
-use Rattle.sha256.specs.Sha256.{wordBytes, joined}
+use Rattle.padding.specs.Padding.{wordBytes}
+use Rattle.padding.proofs.Padding.{word-bytes-length}
+use Rattle.sha256.specs.Sha256.{joined}
 use Rattle.lists.proofs.Pasted.{pasted-next}
-
-pub word-bytes-length : (x : ℕ) → length (wordBytes x) ≡ 4
-unfolding wordBytes
-word-bytes-length x = refl
 
 pub joined-length : (h : List ℕ) (n : ℕ) → length (joined h n) ≡ 4 * n
 unfolding joined

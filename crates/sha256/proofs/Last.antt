@@ -6,9 +6,10 @@ use native.Mathlib.Omega.{arith}
 use lib.ListN.{length, take, drop, length-append, length-drop}
 use lib.Seq.{take-all}
 use Rattle.lists.specs.Buffer.{zeroFilled}
-use Rattle.sha256.specs.Sha256.{zeroBytes, padding, chained, joined, digestFrom}
+use Rattle.padding.specs.Padding.{zeroBytes, padding}
+use Rattle.sha256.specs.Sha256.{chained, joined, digestFrom}
 use Rattle.sha256.proofs.Chain.{digest-rest}
-use Rattle.sha256.proofs.Padding.{padding-length}
+use Rattle.padding.proofs.Padding.{padding-length}
 use Rattle.lists.proofs.Pasted.{zero-filled-take}
 
 pub finished : (from m rest last h₁ h₂ : List ℕ) (total at end : ℕ) → total % 64 ≡ length m % 64 → at ≡ length m / 64 * 64

@@ -1,6 +1,5 @@
 pub mod Chain
 pub mod Joined
-pub mod Padding
 pub mod Last
 pub mod Lists
 pub mod Hash

@@ -1,12 +1,10 @@
 // SHA-256 (FIPS 180-4) of a message of bytes.
-mod buffer;
-
 ghost use mathlib.Core.Path.{_≡_};
 ghost use mathlib.Core.List.{_++_};
-ghost use Prim.Native.Nat.{_+_, _*_, _/_, _%_, _≤_, _<_};
+ghost use Prim.Native.Nat.{_+_, _*_, _/_, _≤_};
 ghost use lib.ListN.{length};
-ghost use Rattle.lists.specs.Buffer.{zeroFilled};
-ghost use Rattle.sha256.specs.Sha256.{zeroBytes, padding, chained, joined, digestFrom, hash};
+ghost use Rattle.padding.specs.Padding.{padding};
+ghost use Rattle.sha256.specs.Sha256.{chained, joined, digestFrom, hash};
 ghost use Rattle.sha256.specs.Digest.{tooLong, sha256Of};
 
 // A digest, or a refusal with 32 zero bytes.
@@ -40,30 +38,6 @@ fn absorb(h: &mut [u32; 8], message: &[u8])
     }
 }
 
-// Where the padding ends that follows n bytes of a last block.
-fn padded_end(n: usize) -> usize
-    requires { ⌜ n < 64 ⌝ }
-    ensures { λ r. ⌜ r ≡ n + 9 + zeroBytes n ⌝ }
-{
-    if n < 56 { 64 } else { 128 }
-}
-
-// The bytes after the last whole block of a message of `total` bytes, and the padding: one block or two.
-fn last_blocks(rest: &[u8], total: usize) -> [u8; 128]
-    requires { ⌜ length (now rest) ≡ total % 64 ⌝ }
-    ensures { λ r. ⌜ r ≡ zeroFilled 128 (now (rest .entry) ++ padding total) ⌝ }
-{
-    let n = rest.len();
-    let bits = (total as u64) << 3;
-    let end = padded_end(n);
-    let mut last = [0u8; 128];
-    bytes::copy(rest, &mut last);
-    last[n] = 0x80;
-    buffer::put_word(&mut last, end - 8, (bits >> 32) as u32);
-    buffer::put_word(&mut last, end - 4, (bits % 0x1_0000_0000) as u32);
-    last
-}
-
 // The bytes of a hash value.
 fn joined_bytes(h: [u32; 8]) -> [u8; 32]
     ensures { λ r. ⌜ r ≡ joined h 8 ⌝ }
@@ -71,7 +45,7 @@ fn joined_bytes(h: [u32; 8]) -> [u8; 32]
     let mut out = [0u8; 32];
     let mut i = 0;
     while i < 8 {
-        buffer::put_word(&mut out, 4 * i, h[i]);
+        padding::put_word(&mut out, 4 * i, h[i]);
         i += 1;
     }
     out
@@ -86,8 +60,8 @@ fn finish(from: [u32; 8], blocks: usize, message: &[u8]) -> [u8; 32]
     absorb(&mut h, message);
     let at = message.len() / 64 * 64;
     let rest = &message[at..];
-    let last = last_blocks(rest, 64 * blocks + message.len());
-    let end = padded_end(rest.len());
+    let last = padding::last_blocks(rest, 64 * blocks + message.len());
+    let end = padding::padded_end(rest.len());
     absorb(&mut h, &last[..end]);
     joined_bytes(h)
 }
@@ -96,14 +70,14 @@ fn finish(from: [u32; 8], blocks: usize, message: &[u8]) -> [u8; 32]
 pub fn hash_bytes(message: &[u8]) -> [u8; 32]
     ensures { λ r. ⌜ r ≡ hash (now (message .entry)) ⌝ }
 {
-    finish(compression::initial_value(), 0, message)
+    finish(sha256_constants::initial_value(), 0, message)
 }
 
 // The hash of a block and a message after it, which is not copied.
 pub fn hash_after(first: [u8; 64], message: &[u8]) -> [u8; 32]
     ensures { λ r. ⌜ r ≡ hash (first ++ now (message .entry)) ⌝ }
 {
-    let mut h = compression::initial_value();
+    let mut h = sha256_constants::initial_value();
     compression::compress(&mut h, &first);
     finish(h, 1, message)
 }

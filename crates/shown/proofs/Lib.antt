@@ -1,3 +1,1 @@
-pub mod Hexadecimal
 pub mod Showing
-pub mod Texts

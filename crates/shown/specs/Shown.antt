@@ -1,8 +1,8 @@
--- A value that was typed as a message shows it, and files that are texts.
+-- A value that was typed as a message shows it.
 use Prim.Native.Nat.{ℕ}
-use mathlib.Core.Bool.{Bool, true, false, cond, not, _&&_, _||_}
+use mathlib.Core.Bool.{Bool, cond, _||_}
 use mathlib.Core.List.{List, [], _∷_}
-use lib.Dec.{eqb, leb, ltb}
+use lib.Dec.{eqb, ltb}
 
 -- "control characters (below 32, and 127)"
 abbrev pub isControl : ℕ → Bool
@@ -15,20 +15,3 @@ shownByte b = cond (isControl b) 63 b
 unfoldable pub shown : List ℕ → List ℕ
 shown [] = []
 shown (b ∷ bs) = shownByte b ∷ shown bs
-
--- a byte of a text: a tab, a line feed, a carriage return, or not a control character
-abbrev pub isTextByte : ℕ → Bool
-isTextByte b = eqb b 9 || eqb b 10 || eqb b 13 || not (isControl b)
-
-unfoldable pub allText : List ℕ → Bool
-allText [] = true
-allText (b ∷ bs) = isTextByte b && allText bs
-
--- a line feed stands in it somewhere
-unfoldable pub hasLine : List ℕ → Bool
-hasLine [] = false
-hasLine (b ∷ bs) = eqb b 10 || hasLine bs
-
--- a text has a line feed, and no byte that is not a text's; a file that was cut within its first record has none
-unfoldable pub isText : List ℕ → Bool
-isText s = hasLine s && allText s

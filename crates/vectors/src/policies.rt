@@ -42,7 +42,7 @@ pub(crate) fn plan(file: &[u8]) {
 
 // The total of an offered tree, and whether it is the least.
 pub(crate) fn tree(file: &[u8], offered: &[u8]) {
-    let w = planner::weigh(file, offered);
+    let w = weighing::weigh(file, offered);
     if print::accepted(w.refusal) {
         print::counted(w.total as u64, b", ");
         if !w.least {

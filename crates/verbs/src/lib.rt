@@ -11,7 +11,7 @@ ghost use Rattle.verbs.specs.Verbs.{isVerb, placeOf, takesSo, trimmedTo}
 fn is_verb(row: [u8; 16], word: &[u8]) -> bool
     ensures { λ r. ⌜ r ≡ isVerb (unpadded row) (now (word .entry)) ⌝ }
 {
-    let length = format::unpadded_length(&row);
+    let length = names::unpadded_length(&row);
     if length == 0 {
         return false;
     }

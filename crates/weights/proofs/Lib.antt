@@ -2,6 +2,4 @@ pub mod Examples
 pub mod Turns
 pub mod Reading
 pub mod Agree
-pub mod Choices
-pub mod Short
 pub mod Above

@@ -1,16 +1,16 @@
--- Laws of one label's record from the tables, and of marks, records and places of the labels below a number with one label more.
+-- Laws of one label's record from the tables, and of the records of the labels below a number with one label more.
 use Prim.Native.Nat.{ℕ, zero, suc, _+_, _≤_, _<_}
 use mathlib.Core.Bool.{Bool, true, false, cond, false≢true}
 use mathlib.Core.List.{List, [], _++_}
 use mathlib.Core.Logic.{⊎-elim, _≢_}
-use mathlib.Core.Path.{_≡_, refl, sym, ap, ap₂, _∙_}
+use mathlib.Core.Path.{_≡_, refl, sym, ap, _∙_}
 use native.Mathlib.Nat.{eq-or-lt-of-le}
 use native.Mathlib.Numerals.{add-one}
 use native.Mathlib.Omega.{arith}
 use borrow.Author.Tests.{eq-eqb}
-use lib.ListN.{length, set, length-append}
+use lib.ListN.{length, length-append}
 use Rattle.lists.specs.Tables.{filled}
-use Rattle.lists.proofs.Tables.{getD-filled, fill-more}
+use Rattle.lists.proofs.Tables.{getD-filled}
 use Rattle.policy_file.specs.File.{nameOf}
 use Rattle.trees.specs.Trees.{top}
 use Rattle.trees.specs.Weights.{inSmallest}
@@ -18,23 +18,9 @@ use Rattle.weights.specs.Tables.{entries}
 use Rattle.weights.proofs.Reading.{entries-filled}
 use Rattle.envelopes.specs.Secrets.{secretOf}
 use Rattle.envelopes.specs.Envelope.{heldRecord, underRecord, header, placeBelow, recordOf, recordsBelow, envelopeOf}
-use Rattle.envelopes.proofs.Places.{place-here, place-skip}
 use Rattle.envelopes.proofs.Written.{records-here, records-skip}
 use Rattle.record_writer.specs.Either.{labelRecord}
 use Rattle.secrets.specs.Asks.{ParentsFall, isMarked, secretAt, Made}
-
--- the marks are filled in from the front
-pub mark-filled : (f : ℕ → Bool) (marks : List Bool) (n : ℕ) (mark : Bool) → marks ≡ filled 64 false f n → mark ≡ f n → n < 64
-    → set marks n mark ≡ filled 64 false f (n + 1)
-mark-filled f marks n mark e h l = ap₂ (λ (t : List Bool) (b : Bool). set t n b) e h ∙ fill-more f 64 false n l
-
-module _ (le : ℕ → ℕ → Bool) (l m k : ℕ) (e : k ≡ placeBelow le l m) where
-  -- the next label's place, label m being at or below l or not
-  pub place-more : le m l ≡ true → k + 1 ≡ placeBelow le l (m + 1)
-  place-more y = rw (add-one k, add-one m) (ap suc e ∙ sym (place-here le l m y))
-
-  pub place-same : le m l ≡ false → k ≡ placeBelow le l (m + 1)
-  place-same n = rw add-one (e ∙ sym (place-skip le l m n))
 
 -- a label at or below l that is not in the smallest set is not the top
 pub under-other : (le : ℕ → ℕ → Bool) (parent : ℕ → ℕ) (l m : ℕ) (held : Bool)

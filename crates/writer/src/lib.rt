@@ -1,48 +1,9 @@
 // Envelopes written, from a policy's names, the order table and the plan's parents.
-ghost use mathlib.Core.Bool.{false};
-ghost use mathlib.Core.Path.{_≡_};
 ghost use Prim.Native.Nat.{_+_, _≤_, _<_};
 ghost use lib.ListN.{length};
-ghost use Rattle.lists.specs.Tables.{filled};
 ghost use Rattle.buffers.specs.Put.{Put};
-ghost use Rattle.order.specs.Table.{entryAt};
-ghost use Rattle.trees.specs.Weights.{inSmallest};
-ghost use Rattle.weights.specs.Tables.{entries, Rowed};
-ghost use Rattle.envelopes.specs.Envelope.{placeBelow};
 ghost use Rattle.secrets.specs.Asks.{Hung};
 ghost use Rattle.writer.specs.Tabled.{tableRecords, tableEnvelope};
-
-// The places of the labels' records in the envelope of label `l`: how many labels before each are at or below `l`.
-fn places(labels: usize, rows: &[[bool; 64]; 64], l: usize) -> [u8; 64]
-    requires { ⌜ (labels ≤ 64) × (l < 64) ⌝ }
-    ensures { λ r. ⌜ r ≡ filled 64 0 (placeBelow (entryAt (now (rows .entry))) l) labels ⌝ }
-{
-    let mut places = [0u8; 64];
-    let mut before: u8 = 0;
-    let mut i = 0;
-    while i < labels {
-        places[i] = before;
-        if rows[i][l] {
-            before += 1;
-        }
-        i += 1;
-    }
-    places
-}
-
-// Which labels are in the smallest set of label `l`.
-fn held_labels(labels: usize, rows: &[[bool; 64]; 64], parents: &[u8; 64], l: usize) -> [bool; 64]
-    requires { ⌜ (labels ≤ 64) × (l < 64) × Rowed labels (now parents) ⌝ }
-    ensures { λ r. ⌜ r ≡ filled 64 false (inSmallest (entryAt (now (rows .entry))) (entries (now (parents .entry))) l) labels ⌝ }
-{
-    let mut held = [false; 64];
-    let mut m = 0;
-    while m < labels {
-        held[m] = sets::in_smallest(rows, parents, l, m);
-        m += 1;
-    }
-    held
-}
 
 // Writes a record for each label at or below label `l`, in policy order.
 fn put_records(
@@ -58,8 +19,8 @@ fn put_records(
     requires { ⌜ Hung (now policy) (now parents) labels × (l < 64) × (at + length (tableRecords (now policy) (now rows) (now parents) root l labels) ≤ length (now out)) ⌝ }
     ensures { λ r. ⌜ Put (now (out .entry)) (now (out .exit)) at (tableRecords (now (policy .entry)) (now (rows .entry)) (now (parents .entry)) root l labels) r ⌝ }
 {
-    let below = places(labels, rows, l);
-    let held = held_labels(labels, rows, parents, l);
+    let below = envelope_tables::places(labels, rows, l);
+    let held = envelope_tables::held_labels(labels, rows, parents, l);
     let secrets = secrets::make_secrets(policy, labels, parents, root, held);
     let mut end = at;
     let mut next = 0;
@@ -96,7 +57,7 @@ pub fn write_envelope(
     requires { ⌜ Hung (now policy) (now parents) labels × (l < labels) × (length (tableEnvelope (now policy) (now rows) (now parents) root l labels account) ≤ length (now out)) ⌝ }
     ensures { λ r. ⌜ Put (now (out .entry)) (now (out .exit)) 0 (tableEnvelope (now (policy .entry)) (now (rows .entry)) (now (parents .entry)) root l labels account) r ⌝ }
 {
-    let name = format::read_name(policy, 12 * l + 2);
+    let name = names::read_name(policy, 12 * l + 2);
     let behind = record_writer::put_header(out, account, name);
     put_records(policy, labels, rows, parents, root, l, out, behind)
 }

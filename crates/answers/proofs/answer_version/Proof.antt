@@ -64,7 +64,8 @@ slice-aggregate-answer : tie.Need-slice-aggregate-answer
 slice-aggregate-answer c = sym (length-take-le _ (c .before .before .put-bytes4 .last .0) (omega arith))
 
 answer-requires : tie.Need-answer-requires
-answer-requires c κs = search needs
+answer-requires c κs =
+    omega (arith, length-take-le (c .before .before .put-bytes4 .result) (c .before .before .put-bytes4 .last .0) (omega arith))
 
 pub answer-version-spec : {M : Type 1} → statement M
 answer-version-spec =

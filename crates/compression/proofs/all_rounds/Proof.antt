@@ -4,7 +4,7 @@ use Prim.Native.Nat.{_≤_, _-_, _%_}
 use native.Mathlib.Omega.{arith}
 use borrow.Author.Needs.{needs}
 use Rattle.compression.proofs.Rounds.{rounds-turn}
-use Rattle.compression.specs.Compression.{rounds, roundWords}
+use Rattle.compression.specs.Compression.{rounds}
 use Rattle.compression.proofs.all_rounds.Statement.{statement}
 use Rattle.compression.proofs.all_rounds.Tie as tie
 
@@ -13,6 +13,9 @@ Inv-loop w k v₀ t₀ v t = (t ≤ 64) × (t % 4 ≡ 0) × (v ≡ rounds w v₀
 
 abbrev μ-loop : tie.MeasureT-loop
 μ-loop w k v₀ t₀ v t = 64 - t
+
+round-words-requires : tie.Need-round-words-requires Inv-loop μ-loop
+round-words-requires c κs = search needs
 
 loop-holds : tie.Need-loop-holds Inv-loop μ-loop
 unfolding rounds
@@ -103,12 +106,11 @@ loop-less : tie.Need-loop-less Inv-loop μ-loop
 loop-less c = search needs
 
 loop-again : tie.Need-loop-again Inv-loop μ-loop
-unfolding roundWords
 loop-again c =
     let a = c .before .before .before .before .before .before .before .before .before in (
       omega arith,
       omega arith,
-      rounds-turn (a .before .args .w .now) (a .before .args .from) (a .loop .v) (c .before .before .before .before .before .before .round .result) (c .before .before .before .before .round2 .result) (c .before .before .round3 .result) (c .round4 .result) (a .loop .t) (a .loop .inv .2) (c .before .before .before .before .before .before .round .ensures) (c .before .before .before .before .round2 .ensures) (c .before .before .round3 .ensures) (c .round4 .ensures),
+      rounds-turn (a .before .before .args .w .now) (a .before .round-words .result) (a .before .round-words .ensures) (a .before .before .args .from) (a .loop .v) (c .before .before .before .before .before .before .round .result) (c .before .before .before .before .round2 .result) (c .before .before .round3 .result) (c .round4 .result) (a .loop .t) (a .loop .inv .2) (c .before .before .before .before .before .before .round .ensures) (c .before .before .before .before .round2 .ensures) (c .before .before .round3 .ensures) (c .round4 .ensures),
     )
 
 returns : tie.Need-returns Inv-loop μ-loop
@@ -120,6 +122,7 @@ all-rounds-spec =
     (tie.spec
     Inv-loop
     μ-loop
+    round-words-requires
     loop-holds
     mul-round
     array-read-round

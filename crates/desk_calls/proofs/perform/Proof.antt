@@ -1,6 +1,6 @@
 -- `desk_calls::perform` meets its contract: it ends as the verb does.
 use borrow.Author.Needs.{needs}
-use Rattle.desk_calls.specs.Ran.{failed}
+use Rattle.desk_calls.specs.Ran.{derived, listed, undone}
 use Rattle.desk_calls.proofs.perform.Statement.{statement}
 use Rattle.desk_calls.proofs.perform.Tie as tie
 
@@ -14,13 +14,13 @@ failed-requires : tie.Need-failed-requires
 failed-requires c κs = search needs
 
 returns : tie.Need-returns
-returns c = search needs
+returns c = derived (c .before .match .keys1) (c .derive .ensures)
 
 returns-2 : tie.Need-returns-2
-returns-2 c = search needs
+returns-2 c = listed (c .before .match .keys2) (c .labels .ensures)
 
 returns-3 : tie.Need-returns-3
-returns-3 c = failed (c .failed .ensures)
+returns-3 c = undone (c .failed .ensures)
 
 pub perform-spec : {M : Type 1} → statement M
 perform-spec =

@@ -1,11 +1,11 @@
 -- `dot::plan_dot` meets its contract: with a refusal of the policy and without one.
 use native.Mathlib.Omega.{arith}
 use lib.ListN.{length}
-use Rattle.dot.specs.Drawing.{dotText}
+use Rattle.plan_texts.specs.Drawing.{dotText}
 use Rattle.buffers.proofs.Handed.{front-length, front-handed, front-left}
-use Rattle.dot.proofs.Answers.{dot-put, dot-refused, dot-handed}
-use Rattle.dot.proofs.Lengths.{dot-suffices}
-use Rattle.text.proofs.Plans.{plan-printable}
+use Rattle.plan_texts.proofs.DrawingAnswer.{dot-put, dot-refused, dot-handed}
+use Rattle.plan_texts.proofs.Lengths.{dot-suffices}
+use Rattle.plan_texts.proofs.Plans.{plan-printable}
 use borrow.Author.Needs.{needs}
 use Rattle.dot.proofs.plan_dot.Statement.{statement}
 use Rattle.dot.proofs.plan_dot.Tie as tie

@@ -1,8 +1,8 @@
 -- `dot::put_drawn` meets its contract.
 use native.Mathlib.Omega.{arith}
 use Rattle.buffers.proofs.Writes.{put-next}
-use Rattle.dot.specs.Drawing.{drawn}
-use Rattle.dot.proofs.Parts.{drawn-length}
+use Rattle.plan_texts.specs.Drawing.{drawn}
+use Rattle.plan_texts.proofs.DrawingParts.{drawn-length}
 use borrow.Author.Needs.{needs}
 use Rattle.dot.proofs.put_drawn.Statement.{statement}
 use Rattle.dot.proofs.put_drawn.Tie as tie

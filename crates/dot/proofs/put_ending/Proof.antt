@@ -1,8 +1,8 @@
 -- `dot::put_ending` meets its contract.
 use native.Mathlib.Omega.{arith}
 use Rattle.buffers.proofs.Writes.{put-next}
-use Rattle.dot.specs.Drawing.{ending}
-use Rattle.dot.proofs.Parts.{ending-length}
+use Rattle.plan_texts.specs.Drawing.{ending}
+use Rattle.plan_texts.proofs.DrawingParts.{ending-length}
 use borrow.Author.Needs.{needs}
 use Rattle.dot.proofs.put_ending.Statement.{statement}
 use Rattle.dot.proofs.put_ending.Tie as tie

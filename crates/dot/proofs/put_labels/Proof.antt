@@ -9,7 +9,7 @@ use Rattle.buffers.specs.Put.{Put}
 use Rattle.buffers.proofs.Writes.{put-next, put-nothing}
 use Rattle.lists.proofs.Concat.{concat-fit}
 use Rattle.lists.specs.Tables.{concatBelow}
-use Rattle.dot.specs.Drawing.{drawn}
+use Rattle.plan_texts.specs.Drawing.{drawn}
 use Rattle.dot.proofs.put_labels.Statement.{statement}
 use Rattle.dot.proofs.put_labels.Tie as tie
 

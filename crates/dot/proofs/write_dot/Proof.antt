@@ -2,7 +2,7 @@
 use native.Mathlib.Omega.{arith}
 use borrow.Author.Needs.{needs}
 use Rattle.buffers.proofs.Writes.{put-next}
-use Rattle.dot.proofs.Parts.{drawing-parts, drawing-length}
+use Rattle.plan_texts.proofs.DrawingParts.{drawing-parts, drawing-length}
 use Rattle.dot.proofs.write_dot.Statement.{statement}
 use Rattle.dot.proofs.write_dot.Tie as tie
 

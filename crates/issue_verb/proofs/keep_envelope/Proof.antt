@@ -2,23 +2,50 @@
 use denote.Ref.{now}
 use lib.ListN.{length}
 use Rattle.fingerprint.specs.Fingerprint.{fingerprintOf}
-use borrow.Author.Needs.{needs}
+use Rattle.lines.specs.Lines.{issuedText}
+use Rattle.outcomes.proofs.Ending.{ends-said, said-printed}
 use Rattle.issue_verb.proofs.Told.{told-whole}
+use borrow.Author.Needs.{needs}
 use Rattle.issue_verb.proofs.keep_envelope.Statement.{statement}
 use Rattle.issue_verb.proofs.keep_envelope.Tie as tie
-
-returns : tie.Need-returns
-returns c =
-    let s = c .before .save in
-    let a = c .before .before .before .before .before .before .args in
-    let told = c .tell-envelope .ensures in
-    told-whole (length (now (a .envelope))) (fingerprintOf (now (a .root)) .bytes) (a .option) (s .result) (c .tell-envelope .result) (s .ensures) (told .0) (told .1)
 
 save-requires : tie.Need-save-requires
 save-requires c κs = search needs
 
-tell-envelope-requires : tie.Need-tell-envelope-requires
-tell-envelope-requires c κs = search needs
+tell-saved-requires : tie.Need-tell-saved-requires
+tell-saved-requires c κs = search needs
+
+print-requires : tie.Need-print-requires
+print-requires c κs = search needs
+
+remove-requires : tie.Need-remove-requires
+remove-requires c κs = search needs
+
+returns : tie.Need-returns
+returns c =
+    let p = c .before .before .before .before in
+    let t = p .before in
+    let s = t .before in
+    let a = s .before .before .before .before .before .args in
+    let e = t .tell-saved .ensures in
+    let size = length (now (a .envelope)) in
+    let print = fingerprintOf (now (a .root)) .bytes in
+    let said = told-whole size print (a .option) (s .save .result) (t .tell-saved .result) (s .save .ensures) (e .0) (ends-said _ (t .tell-saved .result) (e .1)) in
+    said-printed 0 (issuedText size print (a .option)) (p .print .ensures) said
+
+returns-2 : tie.Need-returns-2
+returns-2 c =
+    let p = c .before in
+    let t = p .before in
+    let s = t .before in
+    let a = s .before .before .before .before .before .args in
+    let e = t .tell-saved .ensures in
+    let size = length (now (a .envelope)) in
+    let print = fingerprintOf (now (a .root)) .bytes in
+    let said = told-whole size print (a .option) (s .save .result) (t .tell-saved .result) (s .save .ensures) (e .0) (ends-said _ (t .tell-saved .result) (e .1)) in
+    said-printed 0 (issuedText size print (a .option)) (p .print .ensures) said
 
 pub keep-envelope-spec : {M : Type 1} → statement M
-keep-envelope-spec = tie.close (tie.spec save-requires tell-envelope-requires returns)
+keep-envelope-spec =
+    tie.close
+    (tie.spec save-requires tell-saved-requires print-requires remove-requires returns returns-2)

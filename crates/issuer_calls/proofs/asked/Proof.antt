@@ -5,7 +5,7 @@ use mathlib.Core.Path.{ap}
 use Rattle.answers.specs.Version.{versionLine}
 use Rattle.outcomes.proofs.Ending.{said-as}
 use borrow.Author.Needs.{needs}
-use Rattle.issuer_calls.specs.Ran.{versioned}
+use Rattle.issuer_calls.specs.Ran.{performed, versioned}
 use Rattle.issuer_calls.proofs.asked.Statement.{statement}
 use Rattle.issuer_calls.proofs.asked.Tie as tie
 
@@ -49,7 +49,7 @@ call-requires : tie.Need-call-requires
 call-requires c κs = search needs
 
 returns-3 : tie.Need-returns-3
-returns-3 c = search needs
+returns-3 c = performed _ (c .call .ensures .1)
 
 pub asked-spec : {M : Type 1} → statement M
 asked-spec =

@@ -1,6 +1,6 @@
 -- `issuer_calls::perform` meets its contract: it ends as the verb does.
 use borrow.Author.Needs.{needs}
-use Rattle.issuer_calls.specs.Ran.{failed}
+use Rattle.issuer_calls.specs.Ran.{planned, drawn, weighed, keyed, issued, drew, undone}
 use Rattle.issuer_calls.proofs.perform.Statement.{statement}
 use Rattle.issuer_calls.proofs.perform.Tie as tie
 
@@ -26,25 +26,25 @@ failed-requires : tie.Need-failed-requires
 failed-requires c κs = search needs
 
 returns : tie.Need-returns
-returns c = search needs
+returns c = planned (c .before .match .keys1) (c .plan .ensures)
 
 returns-2 : tie.Need-returns-2
-returns-2 c = search needs
+returns-2 c = drawn (c .before .match .keys2) (c .draw .ensures)
 
 returns-3 : tie.Need-returns-3
-returns-3 c = search needs
+returns-3 c = weighed (c .before .match .keys3) (c .weigh .ensures)
 
 returns-4 : tie.Need-returns-4
-returns-4 c = search needs
+returns-4 c = keyed (c .before .match .keys4) _ (c .key .ensures)
 
 returns-5 : tie.Need-returns-5
-returns-5 c = search needs
+returns-5 c = let e = c .issue .ensures in issued (c .before .match .keys5) _ (e .0) (e .1)
 
 returns-6 : tie.Need-returns-6
-returns-6 c = search needs
+returns-6 c = drew (c .before .match .keys6) (c .root .ensures)
 
 returns-7 : tie.Need-returns-7
-returns-7 c = failed (c .failed .ensures)
+returns-7 c = undone (c .failed .ensures)
 
 pub perform-spec : {M : Type 1} → statement M
 perform-spec =

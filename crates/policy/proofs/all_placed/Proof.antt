@@ -4,7 +4,7 @@ use mathlib.Core.Path.{sym}
 use native.Mathlib.Omega.{arith}
 use borrow.Author.Needs.{needs}
 use borrow.Author.Tests.{not-true, not-false}
-use Rattle.policy.proofs.Records.{LowersBelow, lowers-next, all-found, one-missing}
+use Rattle.policy.proofs.Ends.{LowersBelow, lowers-next, all-found, one-missing}
 use Rattle.policy.proofs.all_placed.Statement.{statement}
 use Rattle.policy.proofs.all_placed.Tie as tie
 

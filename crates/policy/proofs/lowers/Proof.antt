@@ -4,7 +4,7 @@ use mathlib.Core.Path.{_≡_}
 use native.Mathlib.Omega.{arith}
 use borrow.Author.Needs.{needs}
 use Rattle.lists.specs.Tables.{listed}
-use Rattle.policy.proofs.Records.{no-lowers, lowers-more}
+use Rattle.policy.proofs.Ends.{no-lowers, lowers-more}
 use Rattle.policy.proofs.lowers.Statement.{statement}
 use Rattle.policy.proofs.lowers.Tie as tie
 use Rattle.policy_file.specs.Whole.{isLower}

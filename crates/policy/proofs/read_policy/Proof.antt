@@ -3,7 +3,7 @@ use mathlib.Core.Path.{sym, _∙_}
 use borrow.Author.Needs.{needs}
 use borrow.Author.Tests.{not-true, not-false}
 use denote.Ref.{now}
-use Rattle.policy.proofs.Records.{no-bytes, refused-answer, unplaced-answer, accepted-answer}
+use Rattle.policy.proofs.Ends.{no-bytes, refused-answer, unplaced-answer, accepted-answer}
 use Rattle.policy.proofs.read_policy.Statement.{statement}
 use Rattle.policy.proofs.read_policy.Tie as tie
 use Rattle.policy_file.proofs.Stopping.{stop-bounds}

@@ -1,10 +1,10 @@
 -- `text::plan_text` meets its contract: with a refusal of the policy and without one.
 use native.Mathlib.Omega.{arith}
 use lib.ListN.{length}
-use Rattle.text.specs.Listing.{planText}
+use Rattle.plan_texts.specs.Listing.{planText}
 use Rattle.buffers.proofs.Handed.{front-length, front-handed, front-left}
-use Rattle.text.proofs.Answers.{text-put, text-refused, text-handed}
-use Rattle.text.proofs.Plans.{plan-printable, text-suffices}
+use Rattle.plan_texts.proofs.TextAnswer.{text-put, text-refused, text-handed}
+use Rattle.plan_texts.proofs.Plans.{plan-printable, text-suffices}
 use borrow.Author.Needs.{needs}
 use Rattle.text.proofs.plan_text.Statement.{statement}
 use Rattle.text.proofs.plan_text.Tie as tie

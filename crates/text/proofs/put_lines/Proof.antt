@@ -5,7 +5,7 @@ use native.Mathlib.Numerals.{add-one}
 use native.Mathlib.Omega.{arith}
 use lib.ListN.{length}
 use borrow.Author.Needs.{needs}
-use Rattle.text.specs.Listing.{line, lines}
+use Rattle.plan_texts.specs.Listing.{line, lines}
 use Rattle.lists.proofs.Concat.{concat-fit}
 use Rattle.lists.specs.Tables.{concatBelow}
 use Rattle.buffers.specs.Put.{Put}

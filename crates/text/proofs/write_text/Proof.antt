@@ -1,7 +1,7 @@
 -- `text::write_text` meets its contract.
 use native.Mathlib.Omega.{arith}
 use Rattle.buffers.proofs.Writes.{put-next}
-use Rattle.text.proofs.Parts.{listing-parts, listing-length}
+use Rattle.plan_texts.proofs.ListingParts.{listing-parts, listing-length}
 use borrow.Author.Needs.{needs}
 use Rattle.text.proofs.write_text.Statement.{statement}
 use Rattle.text.proofs.write_text.Tie as tie

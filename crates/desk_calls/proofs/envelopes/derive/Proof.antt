@@ -1,6 +1,6 @@
--- `desk_calls::envelopes::derive` meets its contract: it ends as `print_derived` does.
+-- `desk_calls::envelopes::derive` meets its contract: it ends as the verb does.
+use Rattle.outcomes.proofs.Ending.{said-printed}
 use borrow.Author.Needs.{needs}
-use Rattle.desk_calls.specs.Ran.{derived}
 use Rattle.desk_calls.proofs.envelopes.derive.Statement.{statement}
 use Rattle.desk_calls.proofs.envelopes.derive.Tie as tie
 
@@ -25,20 +25,29 @@ name-argument-requires c κs = search needs
 array-share-prefix-envelope : tie.Need-array-share-prefix-envelope
 array-share-prefix-envelope c = search needs
 
-slice-aggregate-print-derived : tie.Need-slice-aggregate-print-derived
-slice-aggregate-print-derived c = search needs
+slice-aggregate-derive : tie.Need-slice-aggregate-derive
+slice-aggregate-derive c = search needs
 
 array-share-prefix-name : tie.Need-array-share-prefix-name
 array-share-prefix-name c = search needs
 
-slice-aggregate-print-derived-2 : tie.Need-slice-aggregate-print-derived-2
-slice-aggregate-print-derived-2 c = search needs
+slice-aggregate-derive-2 : tie.Need-slice-aggregate-derive-2
+slice-aggregate-derive-2 c = search needs
 
-print-derived-requires : tie.Need-print-derived-requires
-print-derived-requires c κs = search needs
+derive-requires : tie.Need-derive-requires
+derive-requires c κs = search needs
+
+array-share-prefix-envelope-2 : tie.Need-array-share-prefix-envelope-2
+array-share-prefix-envelope-2 c = search needs
+
+slice-aggregate-report : tie.Need-slice-aggregate-report
+slice-aggregate-report c = search needs
+
+report-requires : tie.Need-report-requires
+report-requires c κs = search needs
 
 returns : tie.Need-returns
-returns c = derived _ _ (c .print-derived .ensures .1)
+returns c = (_, _, said-printed _ _ (c .report .ensures) (c .before .before .derive .ensures .1))
 
 pub derive-spec : {M : Type 1} → statement M
 derive-spec =
@@ -51,8 +60,11 @@ derive-spec =
     slice-aggregate-name-argument
     name-argument-requires
     array-share-prefix-envelope
-    slice-aggregate-print-derived
+    slice-aggregate-derive
     array-share-prefix-name
-    slice-aggregate-print-derived-2
-    print-derived-requires
+    slice-aggregate-derive-2
+    derive-requires
+    array-share-prefix-envelope-2
+    slice-aggregate-report
+    report-requires
     returns)

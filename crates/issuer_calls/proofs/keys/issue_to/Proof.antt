@@ -1,6 +1,7 @@
--- `issuer_calls::keys::issue_to` meets its contract: it ends as `save_envelope` does, or has failed.
+-- `issuer_calls::keys::issue_to` meets its contract: it ends as the verb does, or has failed.
+use mathlib.Core.List.{[]}
+use Rattle.outcomes.proofs.Ending.{not-both}
 use borrow.Author.Needs.{needs}
-use Rattle.issuer_calls.specs.Ran.{issued, failed}
 use Rattle.issuer_calls.proofs.keys.issue_to.Statement.{statement}
 use Rattle.issuer_calls.proofs.keys.issue_to.Tie as tie
 
@@ -17,7 +18,7 @@ failed-requires : tie.Need-failed-requires
 failed-requires c κs = search needs
 
 returns : tie.Need-returns
-returns c = failed (c .failed .ensures)
+returns c = ([], [], [], not-both (c .failed .ensures))
 
 buffer-requires : tie.Need-buffer-requires
 buffer-requires c κs = search needs
@@ -64,32 +65,41 @@ argument-requires c κs = search needs
 array-share-prefix-policy : tie.Need-array-share-prefix-policy
 array-share-prefix-policy c = search needs
 
-slice-aggregate-save-envelope : tie.Need-slice-aggregate-save-envelope
-slice-aggregate-save-envelope c = search needs
+slice-aggregate-issue : tie.Need-slice-aggregate-issue
+slice-aggregate-issue c = search needs
 
 array-share-prefix-name : tie.Need-array-share-prefix-name
 array-share-prefix-name c = search needs
 
-slice-aggregate-save-envelope-2 : tie.Need-slice-aggregate-save-envelope-2
-slice-aggregate-save-envelope-2 c = search needs
+slice-aggregate-issue-2 : tie.Need-slice-aggregate-issue-2
+slice-aggregate-issue-2 c = search needs
 
 array-share-prefix-root : tie.Need-array-share-prefix-root
 array-share-prefix-root c = search needs
 
-slice-aggregate-save-envelope-3 : tie.Need-slice-aggregate-save-envelope-3
-slice-aggregate-save-envelope-3 c = search needs
+slice-aggregate-issue-3 : tie.Need-slice-aggregate-issue-3
+slice-aggregate-issue-3 c = search needs
 
 array-share-prefix-out : tie.Need-array-share-prefix-out
 array-share-prefix-out c = search needs
 
-slice-aggregate-save-envelope-4 : tie.Need-slice-aggregate-save-envelope-4
-slice-aggregate-save-envelope-4 c = search needs
+slice-aggregate-issue-4 : tie.Need-slice-aggregate-issue-4
+slice-aggregate-issue-4 c = search needs
 
-save-envelope-requires : tie.Need-save-envelope-requires
-save-envelope-requires c κs = search needs
+issue-requires : tie.Need-issue-requires
+issue-requires c κs = search needs
+
+array-share-prefix-policy-2 : tie.Need-array-share-prefix-policy-2
+array-share-prefix-policy-2 c = search needs
+
+slice-aggregate-of-issue : tie.Need-slice-aggregate-of-issue
+slice-aggregate-of-issue c = search needs
+
+of-issue-requires : tie.Need-of-issue-requires
+of-issue-requires c κs = search needs
 
 returns-2 : tie.Need-returns-2
-returns-2 c = issued _ _ _ _ _ (c .save-envelope .ensures .1)
+returns-2 c = (_, _, _, rw (← c .of-issue .ensures) at (c .before .before .issue .ensures .1))
 
 pub issue-to-spec : {M : Type 1} → statement M
 issue-to-spec =
@@ -115,12 +125,15 @@ issue-to-spec =
     slice-aggregate-argument
     argument-requires
     array-share-prefix-policy
-    slice-aggregate-save-envelope
+    slice-aggregate-issue
     array-share-prefix-name
-    slice-aggregate-save-envelope-2
+    slice-aggregate-issue-2
     array-share-prefix-root
-    slice-aggregate-save-envelope-3
+    slice-aggregate-issue-3
     array-share-prefix-out
-    slice-aggregate-save-envelope-4
-    save-envelope-requires
+    slice-aggregate-issue-4
+    issue-requires
+    array-share-prefix-policy-2
+    slice-aggregate-of-issue
+    of-issue-requires
     returns-2)

@@ -1,6 +1,6 @@
--- `issuer_calls::keys::key` meets its contract: it ends as `print_key` does.
+-- `issuer_calls::keys::key` meets its contract: it ends as the verb does.
+use Rattle.outcomes.proofs.Ending.{said-printed}
 use borrow.Author.Needs.{needs}
-use Rattle.issuer_calls.specs.Ran.{keyed}
 use Rattle.issuer_calls.proofs.keys.key.Statement.{statement}
 use Rattle.issuer_calls.proofs.keys.key.Tie as tie
 
@@ -40,26 +40,35 @@ name-argument-requires c κs = search needs
 array-share-prefix-policy : tie.Need-array-share-prefix-policy
 array-share-prefix-policy c = search needs
 
-slice-aggregate-print-key : tie.Need-slice-aggregate-print-key
-slice-aggregate-print-key c = search needs
+slice-aggregate-key : tie.Need-slice-aggregate-key
+slice-aggregate-key c = search needs
 
 array-share-prefix-name : tie.Need-array-share-prefix-name
 array-share-prefix-name c = search needs
 
-slice-aggregate-print-key-2 : tie.Need-slice-aggregate-print-key-2
-slice-aggregate-print-key-2 c = search needs
+slice-aggregate-key-2 : tie.Need-slice-aggregate-key-2
+slice-aggregate-key-2 c = search needs
 
 array-share-prefix-root : tie.Need-array-share-prefix-root
 array-share-prefix-root c = search needs
 
-slice-aggregate-print-key-3 : tie.Need-slice-aggregate-print-key-3
-slice-aggregate-print-key-3 c = search needs
+slice-aggregate-key-3 : tie.Need-slice-aggregate-key-3
+slice-aggregate-key-3 c = search needs
 
-print-key-requires : tie.Need-print-key-requires
-print-key-requires c κs = search needs
+key-requires : tie.Need-key-requires
+key-requires c κs = search needs
+
+array-share-prefix-policy-2 : tie.Need-array-share-prefix-policy-2
+array-share-prefix-policy-2 c = search needs
+
+slice-aggregate-of-key : tie.Need-slice-aggregate-of-key
+slice-aggregate-of-key c = search needs
+
+of-key-requires : tie.Need-of-key-requires
+of-key-requires c κs = search needs
 
 returns : tie.Need-returns
-returns c = keyed _ _ _ _ (c .print-key .ensures .1)
+returns c = (_, _, _, said-printed _ _ (c .of-key .ensures) (c .before .before .key .ensures .1))
 
 pub key-spec : {M : Type 1} → statement M
 key-spec =
@@ -77,10 +86,13 @@ key-spec =
     slice-aggregate-name-argument
     name-argument-requires
     array-share-prefix-policy
-    slice-aggregate-print-key
+    slice-aggregate-key
     array-share-prefix-name
-    slice-aggregate-print-key-2
+    slice-aggregate-key-2
     array-share-prefix-root
-    slice-aggregate-print-key-3
-    print-key-requires
+    slice-aggregate-key-3
+    key-requires
+    array-share-prefix-policy-2
+    slice-aggregate-of-key
+    of-key-requires
     returns)

@@ -1,6 +1,5 @@
 -- `issuer_calls::keys::no_number` meets its contract: it has failed.
 use borrow.Author.Needs.{needs}
-use Rattle.issuer_calls.specs.Ran.{failed}
 use Rattle.issuer_calls.proofs.keys.no_number.Statement.{statement}
 use Rattle.issuer_calls.proofs.keys.no_number.Tie as tie
 
@@ -17,7 +16,7 @@ failed-requires : tie.Need-failed-requires
 failed-requires c κs = search needs
 
 returns : tie.Need-returns
-returns c = failed (c .failed .ensures)
+returns c = c .failed .ensures
 
 pub no-number-spec : {M : Type 1} → statement M
 no-number-spec =

@@ -1,6 +1,8 @@
--- `issuer_calls::keys::root` meets its contract: it ends as `save_root` does, or has failed.
+-- `issuer_calls::keys::root` meets its contract: it ends as `make_root` does, or has failed.
 use borrow.Author.Needs.{needs}
-use Rattle.issuer_calls.specs.Ran.{drew, failed}
+use mathlib.Core.Path.{refl}
+use lib.ListN.{replicate}
+use Rattle.outcomes.proofs.Ending.{not-both}
 use Rattle.issuer_calls.proofs.keys.root.Statement.{statement}
 use Rattle.issuer_calls.proofs.keys.root.Tie as tie
 
@@ -11,7 +13,7 @@ failed-requires : tie.Need-failed-requires
 failed-requires c κs = search needs
 
 returns : tie.Need-returns
-returns c = failed (c .failed .ensures)
+returns c = (replicate 32 0, refl, not-both (c .failed .ensures))
 
 buffer-requires : tie.Need-buffer-requires
 buffer-requires c κs = search needs
@@ -25,14 +27,14 @@ argument-requires c κs = search needs
 array-share-prefix-out : tie.Need-array-share-prefix-out
 array-share-prefix-out c = search needs
 
-slice-aggregate-save-root : tie.Need-slice-aggregate-save-root
-slice-aggregate-save-root c = search needs
+slice-aggregate-make-root : tie.Need-slice-aggregate-make-root
+slice-aggregate-make-root c = search needs
 
-save-root-requires : tie.Need-save-root-requires
-save-root-requires c κs = search needs
+make-root-requires : tie.Need-make-root-requires
+make-root-requires c κs = search needs
 
 returns-2 : tie.Need-returns-2
-returns-2 c = let told = c .save-root .ensures in drew (told .0) (told .1)
+returns-2 c = c .make-root .ensures
 
 pub root-spec : {M : Type 1} → statement M
 root-spec =
@@ -45,6 +47,6 @@ root-spec =
     slice-aggregate-argument
     argument-requires
     array-share-prefix-out
-    slice-aggregate-save-root
-    save-root-requires
+    slice-aggregate-make-root
+    make-root-requires
     returns-2)

@@ -1,6 +1,6 @@
--- `issuer_calls::plans::plan` meets its contract: it ends as `print_plan` does.
+-- `issuer_calls::plans::plan` meets its contract: it ends as the verb does.
+use Rattle.outcomes.proofs.Ending.{said-printed}
 use borrow.Author.Needs.{needs}
-use Rattle.issuer_calls.specs.Ran.{planned}
 use Rattle.issuer_calls.proofs.plans.plan.Statement.{statement}
 use Rattle.issuer_calls.proofs.plans.plan.Tie as tie
 
@@ -16,14 +16,23 @@ read-policy-requires c κs = search needs
 array-share-prefix-policy : tie.Need-array-share-prefix-policy
 array-share-prefix-policy c = search needs
 
-slice-aggregate-print-plan : tie.Need-slice-aggregate-print-plan
-slice-aggregate-print-plan c = search needs
+slice-aggregate-plan : tie.Need-slice-aggregate-plan
+slice-aggregate-plan c = search needs
 
-print-plan-requires : tie.Need-print-plan-requires
-print-plan-requires c κs = search needs
+plan-requires : tie.Need-plan-requires
+plan-requires c κs = search needs
+
+array-share-prefix-policy-2 : tie.Need-array-share-prefix-policy-2
+array-share-prefix-policy-2 c = search needs
+
+slice-aggregate-of-policy : tie.Need-slice-aggregate-of-policy
+slice-aggregate-of-policy c = search needs
+
+of-policy-requires : tie.Need-of-policy-requires
+of-policy-requires c κs = search needs
 
 returns : tie.Need-returns
-returns c = planned _ (c .print-plan .ensures .1)
+returns c = (_, said-printed _ _ (c .of-policy .ensures) (c .before .before .plan .ensures .1))
 
 pub plan-spec : {M : Type 1} → statement M
 plan-spec =
@@ -33,6 +42,9 @@ plan-spec =
     slice-aggregate-read-policy
     read-policy-requires
     array-share-prefix-policy
-    slice-aggregate-print-plan
-    print-plan-requires
+    slice-aggregate-plan
+    plan-requires
+    array-share-prefix-policy-2
+    slice-aggregate-of-policy
+    of-policy-requires
     returns)

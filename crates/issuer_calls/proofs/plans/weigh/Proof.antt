@@ -1,6 +1,6 @@
--- `issuer_calls::plans::weigh` meets its contract: it ends as `print_weighed` does.
+-- `issuer_calls::plans::weigh` meets its contract: it ends as the verb does.
+use Rattle.outcomes.proofs.Ending.{said-printed}
 use borrow.Author.Needs.{needs}
-use Rattle.issuer_calls.specs.Ran.{weighed}
 use Rattle.issuer_calls.proofs.plans.weigh.Statement.{statement}
 use Rattle.issuer_calls.proofs.plans.weigh.Tie as tie
 
@@ -22,20 +22,35 @@ read-both-requires c κs = search needs
 array-share-prefix-policy : tie.Need-array-share-prefix-policy
 array-share-prefix-policy c = search needs
 
-slice-aggregate-print-weighed : tie.Need-slice-aggregate-print-weighed
-slice-aggregate-print-weighed c = search needs
+slice-aggregate-weigh : tie.Need-slice-aggregate-weigh
+slice-aggregate-weigh c = search needs
 
 array-share-prefix-tree : tie.Need-array-share-prefix-tree
 array-share-prefix-tree c = search needs
 
-slice-aggregate-print-weighed-2 : tie.Need-slice-aggregate-print-weighed-2
-slice-aggregate-print-weighed-2 c = search needs
+slice-aggregate-weigh-2 : tie.Need-slice-aggregate-weigh-2
+slice-aggregate-weigh-2 c = search needs
 
-print-weighed-requires : tie.Need-print-weighed-requires
-print-weighed-requires c κs = search needs
+weigh-requires : tie.Need-weigh-requires
+weigh-requires c κs = search needs
+
+array-share-prefix-policy-2 : tie.Need-array-share-prefix-policy-2
+array-share-prefix-policy-2 c = search needs
+
+slice-aggregate-of-tree : tie.Need-slice-aggregate-of-tree
+slice-aggregate-of-tree c = search needs
+
+array-share-prefix-tree-2 : tie.Need-array-share-prefix-tree-2
+array-share-prefix-tree-2 c = search needs
+
+slice-aggregate-of-tree-2 : tie.Need-slice-aggregate-of-tree-2
+slice-aggregate-of-tree-2 c = search needs
+
+of-tree-requires : tie.Need-of-tree-requires
+of-tree-requires c κs = search needs
 
 returns : tie.Need-returns
-returns c = weighed _ _ (c .print-weighed .ensures .1)
+returns c = (_, _, said-printed _ _ (c .of-tree .ensures) (c .before .before .before .weigh .ensures .1))
 
 pub weigh-spec : {M : Type 1} → statement M
 weigh-spec =
@@ -47,8 +62,13 @@ weigh-spec =
     slice-aggregate-read-both-2
     read-both-requires
     array-share-prefix-policy
-    slice-aggregate-print-weighed
+    slice-aggregate-weigh
     array-share-prefix-tree
-    slice-aggregate-print-weighed-2
-    print-weighed-requires
+    slice-aggregate-weigh-2
+    weigh-requires
+    array-share-prefix-policy-2
+    slice-aggregate-of-tree
+    array-share-prefix-tree-2
+    slice-aggregate-of-tree-2
+    of-tree-requires
     returns)

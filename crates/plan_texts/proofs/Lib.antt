@@ -1,0 +1,13 @@
+pub mod ListingParts
+pub mod Plans
+pub mod TextAnswer
+pub mod Front
+pub mod Printed
+pub mod Printing
+pub mod DrawingParts
+pub mod Lengths
+pub mod DrawingAnswer
+pub mod DrawingFront
+pub mod Quoted
+pub mod WorkedText
+pub mod WorkedDrawing

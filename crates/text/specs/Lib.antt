@@ -1,4 +1,0 @@
-pub mod Listing
-pub mod Printed
-pub mod Printable
-pub mod Answer

@@ -76,46 +76,56 @@ ifeq ($(origin PREFIX),command line)
 $(error PREFIX is not used: say prefix=$(PREFIX))
 endif
 
-.PHONY: all lib programs install install-issuer install-desk uninstall check test compare fuzz bench clean help
+# What only builds is built by as many jobs as there are cores, at most 4 and one for each 2 GB of memory, unless make has been told a number (-j). Goals that do more
+# than build come one after the other.
+GOALS := $(or $(MAKECMDGOALS),all)
+ifneq ($(filter-out all lib programs install install-issuer install-desk build/%,$(GOALS)),)
 .NOTPARALLEL:
+else ifeq ($(findstring jobserver,$(MAKEFLAGS)),)
+MAKEFLAGS += -j$(shell awk -v cores="$$(nproc)" '/^MemAvailable:/ { n = int($$2 / 2097152) } END { if (n > cores) n = cores; if (n > 4) n = 4; if (n < 1) n = 1; print n }' /proc/meminfo)
+endif
+
+.PHONY: all lib programs install install-issuer install-desk uninstall check test compare fuzz bench clean help
 .DELETE_ON_ERROR:
 
 all: lib programs
 
 lib: $(ARCHIVES) $(SHARED) $(HEADERS)
 
-programs: build/obj/programs.proved $(PROGRAMS) $(MANUALS)
+programs: $(PROGRAMS) $(MANUALS)
+	@echo "the programs are in build/bin"
 
 help:
 	@sed -n 's/^## //p' Makefile
 
-# ---- objects: 'rt check' proves the crates that a part reaches, several at a time and none twice; 'rt staticlib' then proves the part's own crate once
-# more, so it is called only when a source has changed
+# ---- proofs and objects. Every crate is proved by a call of 'rt check' of its own, as soon as what it uses is proved; one call for all of them would leave a core
+# idle for a fifth of the time. What a crate's rule makes is rt's own note that it is proved, target/stamp/NAME; rt leaves that alone if the crate's files are what they
+# were, hence the touch. 'rt staticlib' proves a part's crate and compiles it.
 
-# The crates that a crate reaches, itself the first: crates.txt has a line 'NAME: what it uses' for each.
-reached = $(shell awk -v crate=$1 ' \
-	/^[a-z]/ { name = $$1; sub(/:$$/, "", name); $$1 = ""; uses[name] = $$0 } \
-	END { all[n = 1] = crate; seen[crate] = 1; \
-		for (i = 1; i <= n; i++) { print all[i]; k = split(uses[all[i]], used); \
-			for (j = 1; j <= k; j++) if (!seen[used[j]]++) all[++n] = used[j] } }' crates.txt)
-# Their files, and their folders, so that a file that was removed counts.
-sources = $(shell find crates.txt $(wildcard $(addprefix crates/,$(call reached,$1))) -name must-fail -prune -o -print)
+CRATES := $(shell sed -nE 's/^([a-z0-9_]+):.*/\1/p' crates.txt)
+# A word CRATE:USED for each crate that a crate uses, the kit's too.
+USES := $(shell awk '/^[a-z]/ { for (i = 2; i <= NF; i++) print $$1 $$i }' crates.txt)
 
-# Proves crates, and tells each that is proved with its seconds: $(call proved,CRATES,LOG)
-proved = set -o pipefail; rt check $1 2>&1 | tee $2 | sed -un 's/^rt: \(.* proved ([0-9]* s)\)$$/  \1/p' || { cat $2; exit 1; }
+# What the proof of a crate depends on: the list of crates, its files, its folders, so that a file that was removed counts, and the proofs of what it uses.
+FILES := $(shell find crates \( -name must-fail -o -name '*[\# ]*' \) -prune -o -print)
+files = $(filter crates/$1 crates/$1/%,$(FILES))
+used = $(filter $(CRATES),$(patsubst $1:%,%,$(filter $1:%,$(USES))))
+rests = crates.txt $(call files,$1) $(patsubst %,target/stamp/%,$(call used,$1))
 
-$(foreach part,$(PARTS),$(eval build/obj/$(part).o: $(call sources,$(part))))
+# A folder in which rt sees the crates and what is proved of them, but keeps what it notes of a run to itself, so that several can run at once: $(call aside,CRATE)
+aside = mkdir -p target/rlib target/stamp build/rt/$1/target && ln -sfn ../../../crates.txt ../../../crates build/rt/$1 && ln -sfn ../../../../target/rlib ../../../../target/stamp build/rt/$1/target
+# $(call run,COMMAND,CRATE): what rt says is shown if it fails. The lock is for a make that was ended while rt went on.
+run = $(call aside,$2) && cd build/rt/$2 && { flock lock ../../../scripts/rt $1 $2 >log 2>&1 || { cat log; exit 1; }; }
+
+$(foreach crate,$(CRATES),$(eval target/stamp/$(crate): $(call rests,$(crate))))
+$(CRATES:%=target/stamp/%): target/stamp/%:
+	@$(call run,check,$*) && sed -n 's/^rt: \($* proved ([0-9]* s)\)$$/  \1/p' log
+	@touch -c $@
+
+$(foreach part,$(PARTS),$(eval build/obj/$(part).o: $(call rests,$(part))))
 $(PARTS:%=build/obj/%.o): build/obj/%.o: | build/obj
-	@echo "proving and building $*"
-	@$(call proved,$*,build/obj/$*.log)
-	@rt staticlib $* >build/obj/$*.log 2>&1 || { cat build/obj/$*.log; exit 1; }
-	@cd build/obj && ar x ../../target/staticlib/lib$*.a $*.o
-
-# Both programs' crates at once, so that no core waits; a build of one program alone does not need this.
-build/obj/programs.proved: $(sort $(call sources,issuer_program) $(call sources,desk_program)) | build/obj
-	@echo "proving what the programs are made of"
-	@$(call proved,issuer_program desk_program,build/obj/programs.log)
-	@touch $@
+	@$(call run,staticlib,$*) && echo "  $* proved and built"
+	@cd build/obj && ar x ../rt/$*/target/staticlib/lib$*.a $*.o
 
 # ---- libraries
 
@@ -144,7 +154,7 @@ build/include/yendlowa_version.h: include/yendlowa_version.h.in $(VERSION_FILE) 
 build/bin/yendlowa: build/obj/issuer_program.o
 build/bin/yendlowa-desk: build/obj/desk_program.o
 build/bin/yendlowa build/bin/yendlowa-desk: build/bin/%: programs/%.c | build/bin
-	@os=$$(sed -nE 's/.*; link (.*) beside it$$/\1/p' $(patsubst %.o,%.log,$(filter %.o,$^))); \
+	@os=$$(sed -nE 's/.*; link (.*) beside it$$/\1/p' $(patsubst build/obj/%.o,build/rt/%/log,$(filter %.o,$^))); \
 	$(CC) $(CPPFLAGS) $(CFLAGS) $(LDFLAGS) $(HARDENED) $^ "$${os:?rt has named no os library}" -o $@
 
 build/bin/yendlowa-encode: scripts/yendlowa-encode $(VERSION_FILE) | build/bin
@@ -160,6 +170,11 @@ $(FOLDERS):
 # ---- installation
 
 install: install-issuer install-desk
+
+# One after the other, since some files belong to both.
+ifneq ($(filter install install-issuer,$(MAKECMDGOALS)),)
+install-desk: | install-issuer
+endif
 
 $(foreach side,$(SIDES),$(eval install-$(side): $(call built,$(side))))
 install-issuer install-desk: install-%:
@@ -186,27 +201,31 @@ uninstall:
 
 # ---- tests
 
-check: lib programs
-	@rt check plan >build/plan.log 2>&1 || { cat build/plan.log; exit 1; }
+check:
+	@$(MAKE) -s --no-print-directory lib programs
+	@scripts/rt check plan >build/plan.log 2>&1 || { cat build/plan.log; exit 1; }
 	@tests/run quick
 
 test:
 	@tests/run
 
-compare: $(COMPARE)
+compare:
+	@$(MAKE) -s --no-print-directory $(COMPARE)
 	@$(COMPARE) $(SEED) $(COUNT) groups
 
-fuzz: $(COMPARE)
+fuzz:
+	@$(MAKE) -s --no-print-directory $(COMPARE)
 	@$(COMPARE) fuzz $(SECONDS)
 
-bench: $(BENCH)
+bench:
+	@$(MAKE) -s --no-print-directory $(BENCH)
 	@$(BENCH) $(if $(GROWTH),growth)
 
 $(COMPARE): $(ARCHIVES) $(wildcard tests/compare/*.rs)
-	@$(RUSTC) --edition 2021 -C opt-level=1 -C codegen-units=1 $(LINKED) tests/compare/main.rs -o $@
+	@env -u MAKEFLAGS $(RUSTC) --edition 2021 -C opt-level=1 -C codegen-units=1 $(LINKED) tests/compare/main.rs -o $@
 
 $(BENCH): $(ARCHIVES) build/sha256.o $(wildcard tests/bench/*.rs tests/compare/*.rs)
-	@$(RUSTC) --edition 2021 -C opt-level=3 $(LINKED) -C link-arg=build/sha256.o $(OPENSSL) tests/bench/bench.rs -o $@
+	@env -u MAKEFLAGS $(RUSTC) --edition 2021 -C opt-level=3 $(LINKED) -C link-arg=build/sha256.o $(OPENSSL) tests/bench/bench.rs -o $@
 
 build/sha256.o: tests/bench/sha256.c | build/lib
 	@$(CC) -O3 -Wall -Wextra -c $< -o $@

@@ -62,6 +62,9 @@ def main(arguments):
     if len(arguments) not in (1, 2):
         print("derive.py: call it as: derive.py ENVELOPE [LIBRARY]", file=sys.stderr)
         return 2
+    if sys.stdout is None:
+        print("derive.py: standard output is closed", file=sys.stderr)
+        return 2
     try:
         library = load(arguments[1] if len(arguments) == 2 else "libyendlowa-desk.so.1")
         with open(arguments[0], "rb") as file:

@@ -25,8 +25,8 @@ pub fn print(program: &[u8], ended: Ended) -> Ended
     ensures { λ r. ⌜ Printed ended r ⌝ }
 {
     let text = ended.text;
-    let taken = ended.ok && write(program, &text, ended.printed);
-    outcomes::printed(taken, ended)
+    let taken = ended.ok && write(program, &text, ended.length);
+    outcomes::after_printing(taken, ended)
 }
 
 // Answers a text.

@@ -8,7 +8,7 @@ ghost use mathlib.Core.Path.{_≡_};
 ghost use Rattle.envelope_file.specs.Derive.{refusedDerived, recordAsked, derivedOf};
 ghost use Rattle.envelope_file.specs.Reads.{Located};
 
-// The record that carries the name asked for; none if that has not 8 bytes.
+// The record that carries the name asked for; none if that does not have 8 bytes.
 fn asked_record(envelope: &[u8], records: usize, starts: &[usize; 64], name: &[u8]) -> Found
     requires { ⌜ Located (now envelope) (now starts) records ⌝ }
     ensures { λ r. ⌜ r ≡ recordAsked (now (envelope .entry)) records (now (name .entry)) ⌝ }

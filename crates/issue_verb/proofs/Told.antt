@@ -20,7 +20,7 @@ module _ (size : ℕ) (print : List ℕ) (option : Bool) (saved : Saved) (e : En
       → Said 0 (issuedText (saved .length) print option) e → Said 0 (issuedText size print option) e
   told-whole counts done said ok = go (saved .ok) refl
     where
-      go : (b : Bool) → saved .ok ≡ b → (e .refusal ≡ 0) × (take (e .printed) (e .text) ≡ issuedText size print option)
+      go : (b : Bool) → saved .ok ≡ b → (e .refusal ≡ 0) × (take (e .length) (e .text) ≡ issuedText size print option)
       go false o = not-both (done ∙ o) ok
       go true o =
           let whole : saved .length ≡ size = counts ∙ ap (λ (b : Bool). cond b size 0) o in

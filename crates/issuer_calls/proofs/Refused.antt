@@ -9,10 +9,10 @@ use Rattle.outcomes.proofs.Ending.{not-both, ends-refusing}
 use Rattle.outcomes.specs.declared.Ended.{Ended}
 use Rattle.issuer_calls.specs.Ran.{Performed, planned, drawn, weighed, keyed, issued, drew, undone, Ran, performed, helped, versioned, failed}
 
-verb-refused : (verb : ℕ) (e : Ended) → Performed verb e → e .ok ≡ true → e .refusal ≢ 0 → take (e .printed) (e .text) ≡ refusedText (e .refusal)
+verb-refused : (verb : ℕ) (e : Ended) → Performed verb e → e .ok ≡ true → e .refusal ≢ 0 → take (e .length) (e .text) ≡ refusedText (e .refusal)
 verb-refused verb e h ok nz = go h
   where
-    go : Performed verb e → take (e .printed) (e .text) ≡ refusedText (e .refusal)
+    go : Performed verb e → take (e .length) (e .text) ≡ refusedText (e .refusal)
     go (planned k h) = ends-refusing _ _ e (h .1) ok nz
     go (drawn k h) = ends-refusing _ _ e (h .1) ok nz
     go (weighed k h) = ends-refusing _ _ e (h .2) ok nz
@@ -21,10 +21,10 @@ verb-refused verb e h ok nz = go h
     go (drew k h) = ends-refusing _ _ e (h .2) ok nz
     go (undone f) = not-both f ok
 
-pub ran-refused : (e : Ended) → Ran e → e .ok ≡ true → e .refusal ≢ 0 → take (e .printed) (e .text) ≡ refusedText (e .refusal)
+pub ran-refused : (e : Ended) → Ran e → e .ok ≡ true → e .refusal ≢ 0 → take (e .length) (e .text) ≡ refusedText (e .refusal)
 ran-refused e h ok nz = go h
   where
-    go : Ran e → take (e .printed) (e .text) ≡ refusedText (e .refusal)
+    go : Ran e → take (e .length) (e .text) ≡ refusedText (e .refusal)
     go (performed word p) = verb-refused _ e p ok nz
     go (helped text opens said) = absurd (nz (said ok .0))
     go (versioned version said) = absurd (nz (said ok .0))

@@ -6,7 +6,7 @@ ghost use Prim.Native.Nat.{_*_, _≤_};
 ghost use lib.ListN.{length};
 ghost use Rattle.issuer_answers.specs.Keys.{labelAsked, refusedKey, issuerKeyOf};
 
-// The label that has the name asked for; none if that has not 8 bytes.
+// The label that has the name asked for; none if that does not have 8 bytes.
 pub fn asked_label(policy: &[u8], labels: usize, name: &[u8]) -> Found
     requires { ⌜ 12 * labels ≤ length (now policy) ⌝ }
     ensures { λ r. ⌜ r ≡ labelAsked (now (policy .entry)) labels (now (name .entry)) ⌝ }

@@ -73,7 +73,7 @@ module _ (refusal : ℕ) (answer : List ℕ) (e : Ended) where
   ends-refused h said = said-as refusal e (sym (printed-refused answer h)) said
 
   -- a call that is refused says the line of its number
-  pub ends-refusing : Ends refusal answer e → e .ok ≡ true → e .refusal ≢ 0 → take (e .printed) (e .text) ≡ refusedText (e .refusal)
+  pub ends-refusing : Ends refusal answer e → e .ok ≡ true → e .refusal ≢ 0 → take (e .length) (e .text) ≡ refusedText (e .refusal)
   ends-refusing ends ok nz =
       let same : e .refusal ≡ refusal = ends ok .0 in
       let some : 0 < refusal = omega (arith, same, nz) in

@@ -20,7 +20,7 @@ IsStatus r = (r ≡ pos 0) ⊎ (r ≡ pos 1) ⊎ (r ≡ pos 2)
 
 -- If the call was done, it ends with this refusal, or 0, and says this text.
 abbrev pub Said : (refusal : ℕ) (text : List ℕ) → Ended → Type 0
-Said refusal text e = e .ok ≡ true → (e .refusal ≡ refusal) × (take (e .printed) (e .text) ≡ text)
+Said refusal text e = e .ok ≡ true → (e .refusal ≡ refusal) × (take (e .length) (e .text) ≡ text)
 
 -- a call whose operation refuses so, and answers this where it does not refuse: "an answer", or "`REFUSED n` on standard output"
 abbrev pub Ends : (refusal : ℕ) (answer : List ℕ) → Ended → Type 0

@@ -7,11 +7,11 @@ ghost use Rattle.decimals.specs.Worded.{refusedText};
 ghost use Rattle.outcomes.specs.Status.{statusOf, Said, Ends, Printed};
 
 // How a call ends. `ok`: it was done, that is, the call was right and its files were read or made; once it is printed, standard output took its text too.
-// `refusal`: the number of the refusal, or 0. What it says is the first `printed` bytes of `text`.
+// `refusal`: the number of the refusal, or 0. What it says is the first `length` bytes of `text`.
 pub struct Ended {
     pub ok: bool,
     pub refusal: u8,
-    pub printed: usize,
+    pub length: usize,
     pub text: [u8; 8192],
 }
 
@@ -35,7 +35,7 @@ pub fn failed() -> Ended
     Ended {
         ok: false,
         refusal: 0,
-        printed: 0,
+        length: 0,
         text: [0u8; 8192],
     }
 }
@@ -46,11 +46,11 @@ fn say(refusal: u8, text: &[u8]) -> Ended
     ensures { λ r. ⌜ (r .ok ≡ true) × Said refusal (now (text .entry)) r ⌝ }
 {
     let mut kept = [0u8; 8192];
-    let printed = buffers::put_bytes(&mut kept, 0, text);
+    let length = buffers::put_bytes(&mut kept, 0, text);
     Ended {
         ok: true,
         refusal,
-        printed,
+        length,
         text: kept,
     }
 }
@@ -88,7 +88,7 @@ pub fn ended_with(ok: bool, refusal: u8, answer: &[u8]) -> Ended
 }
 
 // What printing leaves of a call: the call itself if standard output took its text, else one that failed.
-pub fn printed(taken: bool, ended: Ended) -> Ended
+pub fn after_printing(taken: bool, ended: Ended) -> Ended
     ensures { λ r. ⌜ (taken ≡ false → r .ok ≡ false) × Printed ended r ⌝ }
 {
     if taken {

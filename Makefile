@@ -9,8 +9,8 @@
 ## make uninstall       removes what 'make install' put there, and no folder
 ## make check           the tests that take seconds
 ## make test            everything that the gate asks: proofs, must-fail edits, programs, comparisons, and how long each part took
-## make compare         the second implementation alone, with SEED=n and COUNT=n cases at random
-## make fuzz            cases at random with fresh seeds, for SECONDS=n
+## make compare         the second implementation alone, with SEED=n and COUNT=n random cases
+## make fuzz            random cases with fresh seeds, for SECONDS=n
 ## make bench           every operation beside plain Rust, C and OpenSSL; GROWTH=1: how cost grows with labels and pairs
 ## make clean           removes all that was built and proved
 ## make help            this list
@@ -76,12 +76,13 @@ ifeq ($(origin PREFIX),command line)
 $(error PREFIX is not used: say prefix=$(PREFIX))
 endif
 
-# What only builds is built by as many jobs as there are cores, at most 4 and one for each 2 GB of memory, unless make has been told a number (-j). Goals that do more
-# than build come one after the other.
+# What only builds is built by as many jobs as there are cores, at most 4 and one for each 2 GB of memory, unless make, or a make above it, has been told a number (-j).
+# If one of the goals does more than build, they come one after the other, on one core.
 GOALS := $(or $(MAKECMDGOALS),all)
+TOLD := $(shell printf %s "$$MAKEFLAGS")
 ifneq ($(filter-out all lib programs install install-issuer install-desk build/%,$(GOALS)),)
 .NOTPARALLEL:
-else ifeq ($(findstring jobserver,$(MAKEFLAGS)),)
+else ifeq ($(findstring -j,$(TOLD)),)
 MAKEFLAGS += -j$(shell awk -v cores="$$(nproc)" '/^MemAvailable:/ { n = int($$2 / 2097152) } END { if (n > cores) n = cores; if (n > 4) n = 4; if (n < 1) n = 1; print n }' /proc/meminfo)
 endif
 
@@ -100,7 +101,7 @@ help:
 
 # ---- proofs and objects. Every crate is proved by a call of 'rt check' of its own, as soon as what it uses is proved; one call for all of them would leave a core
 # idle for a fifth of the time. What a crate's rule makes is rt's own note that it is proved, target/stamp/NAME; rt leaves that alone if the crate's files are what they
-# were, hence the touch. 'rt staticlib' proves a part's crate and compiles it.
+# were, hence the touch; its date is that of the start, so that a file changed meanwhile is newer. 'rt staticlib' proves a part's crate and compiles it.
 
 CRATES := $(shell sed -nE 's/^([a-z0-9_]+):.*/\1/p' crates.txt)
 # A word CRATE:USED for each crate that a crate uses, the kit's too.
@@ -115,17 +116,17 @@ rests = crates.txt $(call files,$1) $(patsubst %,target/stamp/%,$(call used,$1))
 # A folder in which rt sees the crates and what is proved of them, but keeps what it notes of a run to itself, so that several can run at once: $(call aside,CRATE)
 aside = mkdir -p target/rlib target/stamp build/rt/$1/target && ln -sfn ../../../crates.txt ../../../crates build/rt/$1 && ln -sfn ../../../../target/rlib ../../../../target/stamp build/rt/$1/target
 # $(call run,COMMAND,CRATE): what rt says is shown if it fails. The lock is for a make that was ended while rt went on.
-run = $(call aside,$2) && cd build/rt/$2 && { flock lock ../../../scripts/rt $1 $2 >log 2>&1 || { cat log; exit 1; }; }
+run = $(call aside,$2) && cd build/rt/$2 && touch began && { RT_JOBS=1 flock lock ../../../scripts/rt $1 $2 >log 2>&1 || { cat log; exit 1; }; }
 
 $(foreach crate,$(CRATES),$(eval target/stamp/$(crate): $(call rests,$(crate))))
 $(CRATES:%=target/stamp/%): target/stamp/%:
 	@$(call run,check,$*) && sed -n 's/^rt: \($* proved ([0-9]* s)\)$$/  \1/p' log
-	@touch -c $@
+	@touch -c -r build/rt/$*/began $@
 
 $(foreach part,$(PARTS),$(eval build/obj/$(part).o: $(call rests,$(part))))
 $(PARTS:%=build/obj/%.o): build/obj/%.o: | build/obj
 	@$(call run,staticlib,$*) && echo "  $* proved and built"
-	@cd build/obj && ar x ../rt/$*/target/staticlib/lib$*.a $*.o
+	@cd build/obj && ar x ../rt/$*/target/staticlib/lib$*.a $*.o && touch -r ../rt/$*/began $*.o
 
 # ---- libraries
 

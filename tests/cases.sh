@@ -73,6 +73,13 @@ answers() { says "$1" 0 "$2" "" "${@:3}"; }
 # refuses NUMBER PLACE COMMAND..: status 1, the number on standard output, place and words on standard error.
 refuses() { says "$2: ${words[$1]} ($1)" 1 "REFUSED $1" "$program: $2: ${words[$1]}" "${@:3}"; }
 
+# refuses_file NUMBER I PLACE COMMAND..: the same where argument I is a file, which is quoted, or standard input where there is none.
+refuses_file() {
+    local file="standard input" at=$((4 + $2))
+    [ $# -lt $at ] || file="'${!at}'"
+    says "$3: ${words[$1]} ($1)" 1 "REFUSED $1" "$program: $file: $3: ${words[$1]}" "${@:4}"
+}
+
 # fails NAME MESSAGE COMMAND..: status 2, nothing on standard output, one line on standard error.
 fails() { says "$1" 2 "" "$program: $2" "${@:3}"; }
 

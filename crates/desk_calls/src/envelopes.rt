@@ -8,7 +8,8 @@ fn tell_refused(program: &[u8], envelope: &[u8], number: u8) {
     if number == 20 {
         arguments::tell_argument(program, 3, number);
     } else {
-        reasons::tell_envelope(program, number, envelope::records_read(envelope));
+        arguments::open_about(program, 2);
+        reasons::tell_envelope(number, envelope::records_read(envelope));
     }
 }
 

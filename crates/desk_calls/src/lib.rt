@@ -22,12 +22,15 @@ fn perform(program: &[u8], verb: usize) -> Ended
     }
 }
 
-// A call whose first argument is this word. With a wrong number of arguments it fails, before anything is read.
+// A call whose first argument is this word. With an option, which no verb has, or a wrong number of arguments, it fails before anything is read.
 fn call(program: &[u8], word: &[u8], count: usize) -> Ended
     ensures { λ r. ⌜ (takesCall verbs (now (word .entry)) count ≡ false → r .ok ≡ false) ⌝ }
     ensures { λ r. ⌜ Performed (placeOf (wordsOf verbs) (now (word .entry))) r ⌝ }
 {
     let verb = verbs::find(desk_tables::words(), word);
+    if usage::tell_option(program, verb, 2) {
+        return outcomes::failed();
+    }
     if verbs::takes(desk_tables::least(), desk_tables::most(), verb, count) {
         return perform(program, verb);
     }

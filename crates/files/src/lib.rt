@@ -72,6 +72,18 @@ fn read_open(fd: i32, buffer: &mut [u8]) -> Read
     Read { ok: true, length }
 }
 
+// The same of a file that has a name, which is told where a read fails.
+fn read_named(program: &[u8], fd: i32, path: &[u8], buffer: &mut [u8]) -> Read
+    ensures { λ r. ⌜ Counts (r .length) (now (buffer .exit)) ⌝ }
+    ensures { λ r. ⌜ (r .ok ≡ false → r .length ≡ 0) ⌝ }
+{
+    let read = read_open(fd, buffer);
+    if !read.ok {
+        messages::file_failed(program, path);
+    }
+    read
+}
+
 // Reads standard input up to its end or the buffer's.
 pub fn read_input(program: &[u8], buffer: &mut [u8]) -> Read
     ensures { λ r. ⌜ Counts (r .length) (now (buffer .exit)) ⌝ }
@@ -93,10 +105,7 @@ fn read_file(program: &[u8], path: &[u8], buffer: &mut [u8]) -> Read
     if fd < 0 {
         return unread(program, path);
     }
-    let read = read_open(fd, buffer);
-    if !read.ok {
-        messages::file_failed(program, path);
-    }
+    let read = read_named(program, fd, path, buffer);
     libc::close(fd);
     read
 }
@@ -107,7 +116,7 @@ pub fn read_argument(program: &[u8], i: usize, buffer: &mut [u8]) -> Read
     ensures { λ r. ⌜ (r .ok ≡ false → r .length ≡ 0) ⌝ }
 {
     if arguments::is_argument(i, b"-") {
-        return read_input(program, buffer);
+        return read_named(program, STDIN_FILENO, b"-", buffer);
     }
     let mut path = io::buffer();
     let length = arguments::argument(i, &mut path);

@@ -43,12 +43,16 @@ fn without(count: usize, option: bool) -> usize {
     }
 }
 
-// A call whose first argument is this word. With a wrong number of arguments it fails, before anything is read or made.
+// A call whose first argument is this word. With an unknown or misplaced option, or a wrong number of arguments, it fails before anything is read
+// or made.
 fn call(program: &[u8], word: &[u8], count: usize, option: bool) -> Ended
     ensures { λ r. ⌜ (takesCall verbs (now (word .entry)) count ≡ false → r .ok ≡ false) ⌝ }
     ensures { λ r. ⌜ Performed (placeOf (wordsOf verbs) (now (word .entry))) r ⌝ }
 {
     let verb = verbs::find(issuer_tables::words(), word);
+    if usage::tell_option(program, verb, reports::first_argument(option)) {
+        return outcomes::failed();
+    }
     if verbs::takes(issuer_tables::least(), issuer_tables::most(), verb, count) {
         return perform(program, verb, count, option);
     }

@@ -4,13 +4,13 @@ ghost use Prim.Native.Nat.{_≤_};
 ghost use mathlib.Core.Path.{_≡_};
 ghost use Rattle.outcomes.specs.Status.{Printed};
 
-// Reports a call over a policy.
+// Reports a call over a policy; the argument after the verb names it, if there is one.
 pub(crate) fn of_policy(program: &[u8], policy: &[u8], ended: Ended) -> Ended
     ensures { λ r. ⌜ Printed ended r ⌝ }
 {
     let printed = answers::print(program, ended);
     if printed.ok && printed.refusal != 0 {
-        policy_messages::tell_policy(program, policy, printed.refusal);
+        policy_messages::tell_policy(program, 2, policy, printed.refusal);
     }
     printed
 }
@@ -21,7 +21,7 @@ pub(crate) fn of_tree(program: &[u8], policy: &[u8], tree: &[u8], ended: Ended) 
 {
     let printed = answers::print(program, ended);
     if printed.ok && printed.refusal != 0 {
-        policy_messages::tell_tree(program, policy, tree, printed.refusal);
+        policy_messages::tell_tree(program, 2, 3, policy, tree, printed.refusal);
     }
     printed
 }
@@ -33,11 +33,13 @@ pub(crate) fn first_argument(option: bool) -> usize
     if option { 3 } else { 2 }
 }
 
-// The argument of `key` that a refusal speaks of: NAME (13) or ROOT.
-fn key_argument(number: u8, option: bool) -> usize {
+// The argument of `key`, whose first one is `at`, that a refusal speaks of: NAME (13) or ROOT.
+fn key_argument(number: u8, at: usize) -> usize
+    requires { ⌜ at ≤ 3 ⌝ }
+{
     match number {
-        13 => first_argument(option) + 1,
-        _ => first_argument(option) + 2,
+        13 => at + 1,
+        _ => at + 2,
     }
 }
 
@@ -47,18 +49,21 @@ pub(crate) fn of_key(program: &[u8], policy: &[u8], option: bool, ended: Ended) 
 {
     let printed = answers::print(program, ended);
     if printed.ok && printed.refusal != 0 {
-        let argument = key_argument(printed.refusal, option);
-        policy_messages::tell_asked(program, policy, printed.refusal, argument);
+        let at = first_argument(option);
+        let argument = key_argument(printed.refusal, at);
+        policy_messages::tell_asked(program, at, argument, policy, printed.refusal);
     }
     printed
 }
 
-// The argument of `issue` that a refusal speaks of: NAME (13), ACCOUNT (14) or ROOT.
-fn issue_argument(number: u8, option: bool) -> usize {
+// The argument of `issue`, whose first one is `at`, that a refusal speaks of: NAME (13), ACCOUNT (14) or ROOT.
+fn issue_argument(number: u8, at: usize) -> usize
+    requires { ⌜ at ≤ 3 ⌝ }
+{
     match number {
-        13 => first_argument(option) + 1,
-        14 => first_argument(option) + 2,
-        _ => first_argument(option) + 3,
+        13 => at + 1,
+        14 => at + 2,
+        _ => at + 3,
     }
 }
 
@@ -67,8 +72,9 @@ pub(crate) fn of_issue(program: &[u8], policy: &[u8], option: bool, printed: End
     ensures { λ r. ⌜ r ≡ printed ⌝ }
 {
     if printed.ok && printed.refusal != 0 {
-        let argument = issue_argument(printed.refusal, option);
-        policy_messages::tell_asked(program, policy, printed.refusal, argument);
+        let at = first_argument(option);
+        let argument = issue_argument(printed.refusal, at);
+        policy_messages::tell_asked(program, at, argument, policy, printed.refusal);
     }
     printed
 }

@@ -59,10 +59,9 @@ pub fn not_a_verb(program: &[u8], word: &[u8]) {
     tell_help(program);
 }
 
-// Tells that a verb was called with too few or too many arguments, and how to call it.
-pub fn wrong_count(program: &[u8], synopsis: &[u8]) {
-    open_line(program);
-    tell(b"wrong number of arguments; call it as: ");
+// Ends a line by how to call a verb.
+pub fn tell_synopsis(synopsis: &[u8]) {
+    tell(b"; call it as: ");
     tell(synopsis);
     tell(b"\n");
 }

@@ -13,13 +13,16 @@ use Rattle.desk_calls.proofs.call.Statement.{statement}
 use Rattle.desk_calls.proofs.call.Tie as tie
 
 returns : tie.Need-returns
+returns c = let f = c .failed .ensures in (λ _. f, undone f)
+
+returns-2 : tie.Need-returns-2
 unfolding verbs
-returns c =
+returns-2 c =
     let i = c .before in
     let t = i .before in
     let m = t .before in
     let l = m .before in
-    let f = l .before in
+    let f = l .before .before .before in
     let w = f .before in
     let args = w .before .before .before .args in
     let same =
@@ -39,13 +42,19 @@ returns c =
     (t .takes .ensures)
     in
     let at = f .find .ensures ∙ ap (λ (words : List (List ℕ)). placeOf words (args .word .now)) (w .words .ensures) in
-    (λ wrong. absurd (false≢true (sym wrong ∙ sym same ∙ i .if1 .taken)), rw (← at) (c .perform .ensures))
+    (λ wrong. absurd (false≢true (sym wrong ∙ sym same ∙ i .if2 .taken)), rw (← at) (c .perform .ensures))
 
 words-requires : tie.Need-words-requires
 words-requires c κs = search needs
 
 find-requires : tie.Need-find-requires
 find-requires c κs = search needs
+
+tell-option-requires : tie.Need-tell-option-requires
+tell-option-requires c κs = search needs
+
+failed-requires : tie.Need-failed-requires
+failed-requires c κs = search needs
 
 least-requires : tie.Need-least-requires
 least-requires c κs = search needs
@@ -62,11 +71,11 @@ perform-requires c κs = search needs
 tell-wrong-requires : tie.Need-tell-wrong-requires
 tell-wrong-requires c κs = search needs
 
-failed-requires : tie.Need-failed-requires
-failed-requires c κs = search needs
+failed-requires-2 : tie.Need-failed-requires-2
+failed-requires-2 c κs = search needs
 
-returns-2 : tie.Need-returns-2
-returns-2 c = let f = c .failed .ensures in (λ _. f, undone f)
+returns-3 : tie.Need-returns-3
+returns-3 c = let f = c .failed2 .ensures in (λ _. f, undone f)
 
 pub call-spec : {M : Type 1} → statement M
 call-spec =
@@ -74,11 +83,14 @@ call-spec =
     (tie.spec
     words-requires
     find-requires
+    tell-option-requires
+    failed-requires
+    returns
     least-requires
     most-requires
     takes-requires
     perform-requires
-    returns
+    returns-2
     tell-wrong-requires
-    failed-requires
-    returns-2)
+    failed-requires-2
+    returns-3)

@@ -9,6 +9,9 @@ use borrow.Author.Needs.{needs}
 use Rattle.policy_messages.proofs.tell_label.Statement.{statement}
 use Rattle.policy_messages.proofs.tell_label.Tie as tie
 
+tell-requires : tie.Need-tell-requires
+tell-requires c κs = search needs
+
 slice-aggregate-unpadded-length : tie.Need-slice-aggregate-unpadded-length
 slice-aggregate-unpadded-length c = search needs
 
@@ -17,17 +20,26 @@ unpadded-length-requires c κs = search needs
 
 array-share-prefix-label : tie.Need-array-share-prefix-label
 array-share-prefix-label c = let n = c .unpadded-length in
-    let name = c .before .before .before .before .args .t3 in
+    let name = c .before .before .before .before .args .t2 in
     omega (arith, n .ensures, unpadded-short name)
 
-slice-aggregate-tell-named : tie.Need-slice-aggregate-tell-named
-slice-aggregate-tell-named c = let n = c .before .unpadded-length in
-    let name = c .before .before .before .before .before .args .t3 in
+slice-aggregate-tell-quoted : tie.Need-slice-aggregate-tell-quoted
+slice-aggregate-tell-quoted c = let n = c .before .unpadded-length in
+    let name = c .before .before .before .before .before .args .t2 in
     let h : n .result ≤ length name = omega (arith, n .ensures, unpadded-short name) in
     sym (length-take-le (n .result) name h)
 
-tell-named-requires : tie.Need-tell-named-requires
-tell-named-requires c κs = search needs
+tell-quoted-requires : tie.Need-tell-quoted-requires
+tell-quoted-requires c κs = search needs
+
+slice-aggregate-tell : tie.Need-slice-aggregate-tell
+slice-aggregate-tell c = search needs
+
+tell-requires-2 : tie.Need-tell-requires-2
+tell-requires-2 c κs = search needs
+
+tell-words-requires : tie.Need-tell-words-requires
+tell-words-requires c κs = search needs
 
 returns : tie.Need-returns
 returns c = search needs
@@ -36,9 +48,13 @@ pub tell-label-spec : {M : Type 1} → statement M
 tell-label-spec =
     tie.close
     (tie.spec
+    tell-requires
     slice-aggregate-unpadded-length
     unpadded-length-requires
     array-share-prefix-label
-    slice-aggregate-tell-named
-    tell-named-requires
+    slice-aggregate-tell-quoted
+    tell-quoted-requires
+    slice-aggregate-tell
+    tell-requires-2
+    tell-words-requires
     returns)

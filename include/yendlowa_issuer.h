@@ -110,8 +110,9 @@ typedef struct yendlowa_planned {
 } yendlowa_planned;
 
 /*
- * The plan of a policy: a derivation tree that needs the fewest keys. "TR" followed by the first `labels` bytes of `parents` is
- * its tree file, as `yendlowa_weigh` takes it.
+ * The plan of a policy: a derivation tree that needs the fewest keys. Of several parents of least weight a label has the one with the
+ * highest number, so that no other label lies between the two. "TR" followed by the first `labels` bytes of `parents` is its tree
+ * file, as `yendlowa_weigh` takes it.
  *
  * Takes    a policy file.
  * Gives    the plan.

@@ -1,4 +1,4 @@
-# What tests/commands, tests/desk and tests/statuses share: the programs on the PATH, an empty folder to work in with policy E, a root
+# What tests/commands, tests/desk, tests/statuses and tests/operations share: the programs on the PATH, an empty folder to work in with policy E, a root
 # secret and trees in it, and cases that compare output, messages and exit status. Run after 'make programs'.
 # Keys and envelopes are compared with crates/vectors/stdout, which tests/vectors.py made from Python's hmac and
 # document 01: policy E, root secret 0, 1, .. 31. Totals, lengths and refusals are those of document 01.

@@ -1,6 +1,6 @@
 #!/usr/bin/env python3
-"""Prints policy files, and the text that the plan of each has to have, from document 01 alone. A program's
-stored input and output come from here.
+"""Prints policy files, and the text that the plan of each has to have, from document 01 and Ask 1 of document 02 alone.
+A program's stored input and output come from here.
 
 python3 tests/plans.py policy CASE    the bytes of the policy file
 python3 tests/plans.py text CASE      the bytes of the text
@@ -117,7 +117,7 @@ def plan_lines(labels, pairs):
         return sum(labels[l][1] for l in at_or_above[label] - at_or_above[parent])
 
     def parent_of(label):
-        return min(at_or_above[label] - {label}, key=lambda parent: (weight(parent, label), parent))
+        return min(at_or_above[label] - {label}, key=lambda parent: (weight(parent, label), -parent))
 
     parents = [None] + [parent_of(label) for label in range(1, len(labels))]
     weights = [labels[0][1]] + [weight(parents[label], label) for label in range(1, len(labels))]

@@ -1,6 +1,6 @@
 #!/usr/bin/env python3
 """Makes what the program `vectors` reads and what it has to write, from sources that know nothing of the project: the digests
-that FIPS 180-4's examples and RFC 4231 give, Python's hashlib and hmac for the other messages, and document 01.
+that FIPS 180-4's examples and RFC 4231 give, Python's hashlib and hmac for the other messages, and documents 01 and 02.
 
 python3 tests/vectors.py    writes crates/vectors/stdin and crates/vectors/stdout
 """
@@ -103,6 +103,7 @@ ONE = label("SUITE", 7)
 LABELS = label("SUITE", 2) + label("CURVES", 3) + label("CONV32", 5) + label("ACCRUED", 4)
 E = LABELS + over(0, 1) + over(0, 2) + over(1, 3) + over(2, 3)
 CHAIN = label("A", 1) + label("B", 0) + label("C", 4) + over(0, 1) + over(1, 2)
+EXCHANGED = label("SUITE", 2) + label("CONV32", 5) + label("CURVES", 3) + label("ACCRUED", 4) + E[-16:]
 
 
 def wide(labels, pairs):
@@ -126,12 +127,14 @@ for name, policy, answer in (
 ):
     case(name, POLICY, answer, (policy,))
 
-# For each label its parent, weight and set size.
+# For each label its parent, weight and set size. By document 02, Ask 1, C of the chain hangs from B. Where CURVES and CONV32 are exchanged, counting
+# labels instead of accounts would hang ACCRUED from CURVES, label 2, for a total of 19.
 for name, policy, answer in (
     ("plan of an empty policy", b"", "REFUSED 1"),
     ("plan of one label", ONE, "0 7 1, total 7"),
     ("plan of E", E, "0 2 1, 0 3 2, 0 5 1, 2 7 1, total 17"),
-    ("plan of the chain A 1, B 0, C 4", CHAIN, "0 1 1, 0 0 2, 0 4 1, total 5"),
+    ("plan of E, CURVES and CONV32 exchanged", EXCHANGED, "0 2 1, 0 5 1, 0 3 2, 1 7 1, total 17"),
+    ("plan of the chain A 1, B 0, C 4", CHAIN, "0 1 1, 0 0 1, 1 4 1, total 5"),
 ):
     case(name, PLAN, answer, (policy,))
 
@@ -142,6 +145,9 @@ for name, policy, tree, answer in (
     ("E under 0,0,1,2", E, b"TR\0\0\1\2", "REFUSED 12"),
     ("E under 0,0,0,3, its own parent", E, b"TR\0\0\0\3", "REFUSED 12"),
     ("E under 1,0,0,2, the top's byte", E, b"TR\1\0\0\2", "REFUSED 12"),
+    ("E exchanged under 0,0,0,2", EXCHANGED, b"TR\0\0\0\2", "19, not least"),
+    ("the chain under 0,0,1", CHAIN, b"TR\0\0\1", "5, least"),
+    ("the chain under 0,0,0", CHAIN, b"TR\0\0\0", "5, least"),
     ("E, three bytes after TR", E, b"TR\0\0\0", "REFUSED 11"),
     ("E, five bytes after TR, one wrong", E, b"TR\0\0\1\2\0", "REFUSED 11"),
     ("E, another mark", E, b"OV\0\0\0\2", "REFUSED 2"),
@@ -151,10 +157,12 @@ for name, policy, tree, answer in (
 ):
     case(name, TREE, answer, (policy, tree))
 
-# Keys and envelopes of document 01's policy E, whose tree it gives, with the root secret 0, 1, .. 31.
+# Keys and envelopes of document 01's policy E, whose tree it gives, and of the chain, whose tree document 02, Ask 1, gives, with the root secret
+# 0, 1, .. 31.
 NAMES = ("SUITE", "CURVES", "CONV32", "ACCRUED")
-PARENTS = {"CURVES": "SUITE", "CONV32": "SUITE", "ACCRUED": "CONV32"}
+PARENTS = {"CURVES": "SUITE", "CONV32": "SUITE", "ACCRUED": "CONV32", "B": "A", "C": "B"}
 BELOW = {"SUITE": NAMES, "CURVES": ("CURVES", "ACCRUED"), "CONV32": ("CONV32", "ACCRUED"), "ACCRUED": ("ACCRUED",)}
+BELOW |= {"A": ("A", "B", "C"), "B": ("B", "C"), "C": ("C",)}
 ROOT = bytes(range(32))
 
 
@@ -193,19 +201,19 @@ def applications(label, name):
     return 1 if name in held(label) else 1 + applications(label, PARENTS[name])
 
 
-def issued(label, account, length, secrets, room):
-    """An envelope, whose length document 01 gives for most labels, and the number of its secrets for one."""
+def issued(label, account, length, secrets, room, title="E", policy=E):
+    """An envelope, whose length document 01 gives for most labels of E, and the number of its secrets for one."""
     made = envelope(label, account)
     if (len(made), len(held(label))) != (length, secrets):
-        raise SystemExit(f"{label}: {len(made)} bytes, {len(held(label))} secrets; document 01 has {length}, {secrets}")
+        raise SystemExit(f"{label}: {len(made)} bytes, {len(held(label))} secrets, not {length} and {secrets}")
     answer = f"{length} bytes, {made.hex()}"
-    case(f"E, {label}, account {account}", ENVELOPE, answer, (E, padded(label), ROOT, bytes(room)), account)
+    case(f"{title}, {label}, account {account}", ENVELOPE, answer, (policy, padded(label), ROOT, bytes(room)), account)
 
 
 def derived(name, label, count):
     """A name from a label's envelope, with the applications that document 01 gives for most."""
     if applications(label, name) != count:
-        raise SystemExit(f"{name} from {label}: {applications(label, name)} applications, and document 01 has {count}")
+        raise SystemExit(f"{name} from {label}: {applications(label, name)} applications, not {count}")
     answer = f"{count} applications, {key_of(name).hex()}"
     case(f"{name} from {label}", DERIVED, answer, (envelope(label, 1), padded(name)))
 
@@ -213,6 +221,7 @@ def derived(name, label, count):
 for name in NAMES:
     case(f"key of {name}", KEY, key_of(name).hex(), (E, padded(name), ROOT))
 for name, policy, asked, root, answer in (
+    ("key of C of the chain", CHAIN, padded("C"), ROOT, key_of("C").hex()),
     ("key of RATES", E, padded("RATES"), ROOT, "REFUSED 13"),
     ("key of SUITE in 5 bytes", E, b"SUITE", ROOT, "REFUSED 13"),
     ("key of SUITE, root of 31 bytes", E, padded("SUITE"), bytes(31), "REFUSED 15"),
@@ -225,6 +234,8 @@ issued("CONV32", 5, 65, 1, room=65)
 issued("CURVES", 3, 96, 2, room=100)
 issued("SUITE", 2, 87, 1, room=128)
 issued("ACCRUED", 1, 54, 1, room=54)
+issued("A", 1, 76, 1, room=76, title="the chain", policy=CHAIN)
+issued("C", 4, 54, 1, room=54, title="the chain", policy=CHAIN)
 for name, asked, account, room, answer in (
     ("E, CONV32, account 5, 64 bytes", "CONV32", 5, 64, "REFUSED 16"),
     ("E, CONV32, account 6", "CONV32", 6, 65, "REFUSED 14"),
@@ -240,6 +251,7 @@ derived("ACCRUED", "SUITE", 3)
 derived("CONV32", "CONV32", 1)
 derived("ACCRUED", "CONV32", 2)
 derived("ACCRUED", "CURVES", 1)
+derived("C", "A", 3)
 for name, file, asked, answer in (
     ("CURVES from CONV32", envelope("CONV32", 1), padded("CURVES"), "REFUSED 20"),
     ("CONV32 from CONV32 in 6 bytes", envelope("CONV32", 1), b"CONV32", "REFUSED 20"),

@@ -85,13 +85,13 @@ fn weight(counts: &[u32; 64], parent: &[bool; 64], label: &[bool; 64]) -> u32 {
     sum
 }
 
-/// The parent of least weight, of several the lowest, and its weight.
+/// The parent of least weight, of several the one with the highest number, and its weight.
 pub fn best_parent(policy: &Policy, rows: &Rows, label: usize) -> (u8, u32) {
     let mut best = (0, u32::MAX);
     for parent in 0..label {
         if rows[label][parent] {
             let weight = weight(&policy.counts, &rows[parent], &rows[label]);
-            if weight < best.1 {
+            if weight <= best.1 {
                 best = (parent as u8, weight);
             }
         }

@@ -60,7 +60,7 @@ fn numbered(pairs: impl Iterator<Item = (u8, u8)>) -> Vec<u8> {
     (0..64).flat_map(label).chain(pairs.flat_map(|(upper, lower)| pair(upper, lower))).collect()
 }
 
-/// 9 labels below the top and 54 below each of these. In the plan the 54 hang from label 1, so that each of the
+/// 9 labels below the top and 54 below each of these. In the plan the 54 hang from label 9, so that each of the
 /// other 8 holds 54 secrets beside its own.
 pub fn two_layers() -> Vec<u8> {
     let middle = (1..10).map(|middle| (0, middle));

@@ -25,10 +25,12 @@ static void planned_e(void)
     check(same(e.sizes, BYTES("\1\2\1\1")) && all_zero(e.sizes + 4, 60));
 }
 
+#define CHAIN "LBA       \0\1LBB       \0\0LBC       \0\4OV\0\1OV\1\2"
+
 static void planned_others(void)
 {
-    yendlowa_planned chain = plan(BYTES("LBA       \0\1LBB       \0\0LBC       \0\4OV\0\1OV\1\2"));
-    check(chain.refusal == YENDLOWA_ACCEPTED && chain.total == 5 && chain.parents[2] == 0 && chain.weights[2] == 4);
+    yendlowa_planned chain = plan(BYTES(CHAIN));
+    check(chain.refusal == YENDLOWA_ACCEPTED && chain.total == 5 && chain.parents[2] == 1 && chain.weights[2] == 4);
     check(plan(BYTES("LBONE     \0\7")).total == 7);
     yendlowa_planned none = plan(BYTES(E "OV\3\3"));
     check(none.refusal == YENDLOWA_NOT_ABOVE && none.labels == 0 && none.total == 0);
@@ -36,9 +38,9 @@ static void planned_others(void)
     check(plan(BYTES("")).refusal == YENDLOWA_EMPTY);
 }
 
-static void offered(bytes tree, uint32_t total, bool least)
+static void offered(bytes policy, bytes tree, uint32_t total, bool least)
 {
-    yendlowa_weighed answer = weigh(BYTES(E), tree);
+    yendlowa_weighed answer = weigh(policy, tree);
     check(answer.refusal == YENDLOWA_ACCEPTED && answer.total == total && answer.least == least);
 }
 
@@ -52,9 +54,11 @@ void plans(void)
 {
     planned_e();
     planned_others();
-    offered(BYTES("TR\0\0\0\2"), 17, true);
-    offered(BYTES("TR\0\0\0\1"), 19, false);
-    offered(BYTES("TR\0\0\0\0"), 22, false);
+    offered(BYTES(E), BYTES("TR\0\0\0\2"), 17, true);
+    offered(BYTES(E), BYTES("TR\0\0\0\1"), 19, false);
+    offered(BYTES(E), BYTES("TR\0\0\0\0"), 22, false);
+    offered(BYTES(CHAIN), BYTES("TR\0\0\1"), 5, true);
+    offered(BYTES(CHAIN), BYTES("TR\0\0\0"), 5, true);
     refused(BYTES(E), BYTES(""), YENDLOWA_BAD_MARK);
     refused(BYTES(E), BYTES("T"), YENDLOWA_BAD_MARK);
     refused(BYTES(E), BYTES("LB\0\0\0\2"), YENDLOWA_BAD_MARK);

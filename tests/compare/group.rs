@@ -46,6 +46,15 @@ impl Group {
         }
     }
 
+    /// A case that is one statement, which has to hold.
+    pub fn holds(&mut self, what: impl Fn() -> String, fact: bool) {
+        if fact {
+            self.agreed += 1;
+        } else if self.differing.is_none() {
+            self.differing = Some(format!("{}, which does not hold", what()));
+        }
+    }
+
     pub fn report(self, note: &str) -> bool {
         match self.differing {
             None => println!("compare: {}: {} cases agree{}", self.name, self.agreed, note),

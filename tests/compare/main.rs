@@ -1,5 +1,5 @@
-//! Compares the proved library with a second implementation, written from the standards and from document
-//! 01 alone, on many inputs. One line a group; the last line is 'N passed, M failed', N and M counting groups.
+//! Compares the proved library with a second implementation, written from the standards and from documents
+//! 01 and 02 alone, on many inputs. One line a group; the last line is 'N passed, M failed', N and M counting groups.
 //!
 //! compare SEED COUNT         so many cases at random, each of any public operation; a group is an operation
 //! compare SEED COUNT groups  these, and before them the groups on chosen kinds of input
@@ -21,6 +21,7 @@ mod random;
 mod reading;
 mod records;
 mod sha256;
+mod ties;
 mod tree;
 
 use cases::Cases;
@@ -37,6 +38,7 @@ fn groups(random: &mut Random, second: &sha256::Sha256) -> Vec<bool> {
         issuing::groups(random, second, issued),
         deriving::groups(random, second, issued),
         fingerprints::groups(random, second),
+        ties::groups(random, second),
     ];
     let plans::Counts { plans, trees, texts } = counts;
     println!("compare: in all {plans} policies planned, {trees} trees weighed, {texts} texts written");

@@ -103,25 +103,29 @@ const E_DOT: &str = r#"digraph plan {
 "#;
 
 /// 9 labels below the top and 54 below each of these, with 65,535 accounts each. In the plan the 54 hang from
-/// label 1, so each of the other 8 holds 54 keys beside its own.
+/// label 9, so each of the other 8 holds 54 keys beside its own.
 fn two_layers() -> (Vec<u8>, Plan) {
     let middle = (1..10).map(|middle| (0, middle));
     let lowest = (10..64).flat_map(|lower| (1..10).map(move |middle| (middle, lower)));
     let pairs: Vec<(u8, u8)> = middle.chain(lowest).collect();
     let plan = Plan {
-        parents: [vec![0; 10], vec![1; 54]].concat(),
+        parents: [vec![0; 10], vec![9; 54]].concat(),
         weights: [vec![65_535; 10], vec![9 * 65_535; 54]].concat(),
-        sizes: [vec![1; 2], vec![55; 8], vec![1; 54]].concat(),
+        sizes: [vec![1], vec![55; 8], vec![1; 55]].concat(),
         total: 32_505_360,
     };
     (files::numbered(64, 65_535, &pairs), plan)
 }
 
-/// Document 01's policies with the plan that it gives, or the refusal, and large ones.
+/// Document 01's policies with the plan that it gives, by Ask 1 of document 02 for the chain, or the refusal, and
+/// large ones. In E with CURVES and CONV32 exchanged, counting labels instead of accounts would hang ACCRUED from
+/// CURVES, for a total of 19.
 fn plans_by_hand() -> Vec<(&'static str, Vec<u8>, Result<Plan, u8>)> {
     let e = |more: &[(u8, u8)]| files::written_e(&[&files::E_PAIRS, more].concat());
     let one = files::written(&[("A", 7)], &[]);
     let chain = files::written(&[("A", 1), ("B", 0), ("C", 4)], &[(0, 1), (1, 2)]);
+    let exchanged = [("SUITE", 2), ("CONV32", 5), ("CURVES", 3), ("ACCRUED", 4)];
+    let exchanged = files::written(&exchanged, &files::E_PAIRS);
     let plan = |parents: &[u8], weights: &[u32], sizes: &[u8], total| {
         let (parents, weights, sizes) = (parents.to_vec(), weights.to_vec(), sizes.to_vec());
         Ok(Plan { parents, weights, sizes, total })
@@ -137,10 +141,11 @@ fn plans_by_hand() -> Vec<(&'static str, Vec<u8>, Result<Plan, u8>)> {
         ("its record without the last byte", one[..11].to_vec(), Err(3)),
         ("one label with 7 accounts", one, plan(&[0], &[7], &[1], 7)),
         ("E", e(&[]), plan(&[0, 0, 0, 2], &[2, 3, 5, 7], &[1, 2, 1, 1], 17)),
+        ("E, CURVES and CONV32 exchanged", exchanged, plan(&[0, 0, 0, 1], &[2, 5, 3, 7], &[1, 1, 2, 1], 17)),
         ("E without its last two pairs", files::written_e(&files::E_PAIRS[..2]), Err(10)),
         ("E, added pair 3-3", e(&[(3, 3)]), Err(9)),
         ("E, added pair 3-4", e(&[(3, 4)]), Err(8)),
-        ("chain A 1, B 0, C 4", chain, plan(&[0, 0, 0], &[1, 0, 4], &[1, 2, 1], 5)),
+        ("chain A 1, B 0, C 4", chain, plan(&[0, 0, 1], &[1, 0, 4], &[1, 1, 1], 5)),
         ("64 labels, each paired below the top", most, plan(&[0; 64], &[9; 64], &[1; 64], 576)),
         ("65 labels, each paired below the top", too_many, Err(5)),
         ("64 labels in a chain", chained, plan(&up_to, &[65_535; 64], &[1; 64], 4_194_240)),
@@ -212,13 +217,7 @@ fn by_hand(counts: &mut Counts) -> bool {
 
 /// For each label its parents of least weight, weights counted as document 01 says.
 fn least_parents(planned: &Planned) -> Vec<Vec<usize>> {
-    let of_label = |m: usize| {
-        let weighed: Vec<(usize, u32)> =
-            planned.strictly_above(m).into_iter().map(|parent| (parent, planned.weight(parent, m))).collect();
-        let least = weighed.iter().map(|one| one.1).min();
-        weighed.iter().filter(|one| Some(one.1) == least).map(|one| one.0).collect()
-    };
-    (0..planned.labels()).map(of_label).collect()
+    (0..planned.labels()).map(|m| planned.least_parents(m)).collect()
 }
 
 /// Whether every label but the top hangs from one of these parents.
@@ -226,12 +225,12 @@ fn hangs_from(parents: &[Vec<usize>], tree: &[usize]) -> bool {
     (1..tree.len()).all(|m| parents[m].contains(&tree[m]))
 }
 
-/// The plan that trying everything leads to: of the trees with the fewest keys, the one in which each label has
-/// its lowest parent. The weights are those that document 01 counts.
+/// The plan that trying everything leads to: of the trees with the fewest keys, the one in which each label's
+/// parent has the highest number. The weights are those that document 01 counts.
 fn tried_plan(planned: &Planned, top: u16, tried: &[Tried], fewest: u32) -> Plan {
     let least: Vec<&Tried> = tried.iter().filter(|one| one.total == fewest).collect();
-    let lowest = |m: usize| least.iter().map(|one| one.tree[m]).min().unwrap();
-    let tree: Vec<usize> = (0..planned.labels()).map(lowest).collect();
+    let highest = |m: usize| least.iter().map(|one| one.tree[m]).max().unwrap();
+    let tree: Vec<usize> = (0..planned.labels()).map(highest).collect();
     let chosen = tried.iter().find(|one| one.tree == tree).unwrap();
     let weight = |m: usize| if m == 0 { top as u32 } else { planned.weight(tree[m], m) };
     Plan {

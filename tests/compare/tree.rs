@@ -1,5 +1,5 @@
-//! Trees over a policy, from document 01: the order by search, weights, the plan, smallest sets, totals, tree
-//! files with their refusals, the plan's text and its drawing.
+//! Trees over a policy, from document 01 and Ask 1 of document 02: the order by search, weights, the plan,
+//! smallest sets, totals, tree files with their refusals, the plan's text and its drawing.
 
 use crate::policy::{self, Policy};
 
@@ -10,6 +10,14 @@ pub struct Plan {
     pub weights: Vec<u32>,
     pub sizes: Vec<u8>,
     pub total: u32,
+}
+
+/// Which of several parents of least weight a label hangs from: the one with the highest number, as Ask 1 of
+/// document 02 has it, or the one with the lowest, as document 01 had it before.
+#[derive(Clone, Copy)]
+pub enum Tie {
+    Highest,
+    Lowest,
 }
 
 /// An accepted policy with its order and its plan. A tree is a list of parents, the top's own entry 0.
@@ -41,9 +49,13 @@ fn search(policy: &Policy) -> Vec<Vec<bool>> {
 
 impl<'a> Planned<'a> {
     pub fn new(policy: &'a Policy) -> Planned<'a> {
+        Planned::by_rule(policy, Tie::Highest)
+    }
+
+    pub fn by_rule(policy: &'a Policy, tie: Tie) -> Planned<'a> {
         let none = Plan { parents: Vec::new(), weights: Vec::new(), sizes: Vec::new(), total: 0 };
         let mut planned = Planned { policy, below: search(policy), plan: none };
-        planned.plan = planned.made();
+        planned.plan = planned.made(tie);
         planned
     }
 
@@ -60,16 +72,32 @@ impl<'a> Planned<'a> {
         (0..self.labels()).filter(|upper| *upper != label && self.at_or_below(label, *upper)).collect()
     }
 
+    /// Whether the parent is strictly above the label and no other label lies between them.
+    pub fn covers(&self, parent: usize, label: usize) -> bool {
+        let above = self.strictly_above(label);
+        above.contains(&parent) && above.iter().all(|x| *x == parent || !self.at_or_below(*x, parent))
+    }
+
     /// The accounts at labels that are at or above the label and not at or above the parent.
     pub fn weight(&self, parent: usize, label: usize) -> u32 {
         let counted = |l: &usize| self.at_or_below(label, *l) && !self.at_or_below(parent, *l);
         (0..self.labels()).filter(counted).map(|l| self.policy.counts[l] as u32).sum()
     }
 
-    /// A parent of least weight; of several, the one with the lowest number.
-    fn best_parent(&self, label: usize) -> usize {
-        let above = self.strictly_above(label);
-        above.into_iter().min_by_key(|parent| (self.weight(*parent, label), *parent)).unwrap()
+    /// The label's parents of least weight, in their numbers' order.
+    pub fn least_parents(&self, label: usize) -> Vec<usize> {
+        let above = self.strictly_above(label).into_iter();
+        let weighed: Vec<(usize, u32)> = above.map(|parent| (parent, self.weight(parent, label))).collect();
+        let least = weighed.iter().map(|one| one.1).min();
+        weighed.iter().filter(|one| Some(one.1) == least).map(|one| one.0).collect()
+    }
+
+    fn best_parent(&self, label: usize, tie: Tie) -> usize {
+        let least = self.least_parents(label);
+        match tie {
+            Tie::Highest => *least.last().unwrap(),
+            Tie::Lowest => least[0],
+        }
     }
 
     /// Each label at or below this one that is the top or whose parent is not at or below it.
@@ -85,9 +113,9 @@ impl<'a> Planned<'a> {
         total.try_into().unwrap()
     }
 
-    fn made(&self) -> Plan {
+    fn made(&self, tie: Tie) -> Plan {
         let labels = self.labels();
-        let tree: Vec<usize> = (0..labels).map(|m| if m == 0 { 0 } else { self.best_parent(m) }).collect();
+        let tree: Vec<usize> = (0..labels).map(|m| if m == 0 { 0 } else { self.best_parent(m, tie) }).collect();
         let weight = |m: usize| if m == 0 { self.policy.counts[0] as u32 } else { self.weight(tree[m], m) };
         Plan {
             parents: tree.iter().map(|parent| *parent as u8).collect(),

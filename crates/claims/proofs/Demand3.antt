@@ -4,7 +4,7 @@ use mathlib.Core.Bool.{true}
 use mathlib.Core.List.{List}
 use mathlib.Core.Logic.{_↔_}
 use mathlib.Core.Path.{_≡_, sym, subst}
-use Rattle.plan_answers.proofs.PlanAnswer.{plan-answer-tree, plan-answer-hangs, plan-answer-lowest, plan-answer-total, plan-answer-fewest, plan-answer-weights, plan-answer-top-weight, plan-answer-sizes, plan-answer-sum}
+use Rattle.plan_answers.proofs.PlanAnswer.{plan-answer-tree, plan-answer-hangs, plan-answer-preferred, plan-answer-covers, plan-answer-total, plan-answer-fewest, plan-answer-weights, plan-answer-top-weight, plan-answer-sizes, plan-answer-sum}
 use Rattle.plan_answers.proofs.PolicyOrder.{policy-order}
 use Rattle.plan_answers.proofs.WeighAnswer.{weigh-accepted, weigh-total, weigh-yes, weigh-yes-equal, weigh-yes-smallest}
 use Rattle.plan_answers.specs.Planned.{planOf, atOrBelow}
@@ -42,7 +42,8 @@ module _ (file : List ℕ) (ok : AcceptedPolicy file) where
     hangs = plan-answer-hangs file ok;
     fewest = plan-answer-fewest file ok;
     total = plan-answer-total file ok;
-    lowest = plan-answer-lowest file ok;
+    highest = plan-answer-preferred file ok;
+    covers = plan-answer-covers file ok;
     weights = plan-answer-weights file ok;
     top-weight = plan-answer-top-weight file ok;
     sizes = plan-answer-sizes file ok;

@@ -15,8 +15,8 @@ use Rattle.policy_file.specs.File.{countOf}
 use Rattle.policy_file.specs.Whole.{labelCount}
 use Rattle.trees.specs.Accounts.{OpensBut, NumberOf}
 use Rattle.trees.specs.Sums.{sum}
-use Rattle.trees.specs.Trees.{top, Assignment, keys, Fewest}
-use Rattle.trees.specs.Weights.{weight, total, weights, LeastWeight, HangsLeast}
+use Rattle.trees.specs.Trees.{top, Covers, Assignment, keys, Fewest}
+use Rattle.trees.specs.Weights.{weight, total, weights, LeastWeight, HangsLeast, Preferred}
 use Rattle.weights.specs.Tables.{entries}
 use Rattle.claims.specs.Published.{R, TreeOf, SufficientFor, smallestSet, Published}
 
@@ -58,8 +58,10 @@ pub record OfPlan (file : List ℕ) : Type 0 where
   -- "and the total answered with it is the fewest"
   pub fewest : FewestOf file (planOf file .total)
   pub total : planOf file .total ≡ totalOf file (entries (planOf file .parents))
-  -- 01: "of several, the one with the lowest number"
-  pub lowest : (m : ℕ) → m < labelCount file → m ≢ top → (p : ℕ) → LeastWeight (labelCount file) (countOf file) (R file) (atOrBelow file) p m → entries (planOf file .parents) m ≤ p
+  -- 02, Ask 1: "Of several parents of least weight the plan shall take the one with the highest number"
+  pub highest : (m : ℕ) → m < labelCount file → m ≢ top → (p : ℕ) → LeastWeight (labelCount file) (countOf file) (R file) (atOrBelow file) p m → Preferred (entries (planOf file .parents) m) p
+  -- 02, Ask 1: "Every chosen parent then covers its child: no label lies between them" (003: Corollary 4)
+  pub covers : (m : ℕ) → m < labelCount file → m ≢ top → Covers (labelCount file) (R file) (entries (planOf file .parents) m) m
   -- the other tables: each parent's weight (for the top its accounts), and the size of each label's smallest set
   pub weights : (m : ℕ) → m < labelCount file → m ≢ top
       → entries (planOf file .weights) m ≡ weight (labelCount file) (countOf file) (atOrBelow file) (entries (planOf file .parents) m) m

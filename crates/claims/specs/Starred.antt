@@ -124,9 +124,9 @@ starredRows =
     ∷ opens E CONV32 5 CONV32 1
     ∷ opens E CONV32 5 ACCRUED 2
     ∷ shuts E CONV32 5 CURVES 20
-    -- "* Chain A 1, B 0, C 4: A and B both weigh 4 for C, and C hangs from A. Total 5."
+    -- "* Chain A 1, B 0, C 4: A and B both weigh 4 for C", rewritten by 02, Ask 1: "chain A, B, C now hangs C from B. .. Total 5 is unchanged"
     ∷ parent-weighs chain 0 2 4
     ∷ parent-weighs chain 1 2 4
-    ∷ hangs chain 2 0
+    ∷ hangs chain 2 1
     ∷ totals chain 5
     ∷ []

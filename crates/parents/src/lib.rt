@@ -22,7 +22,7 @@ pub struct Chosen {
 fn takes(later: u32, sofar: u32) -> bool
     ensures { λ r. ⌜ r ≡ takes later sofar ⌝ }
 {
-    later < sofar
+    later <= sofar
 }
 
 // The parent of least weight for label `m`, gone through upwards from the top.

@@ -17,15 +17,17 @@ use Rattle.policy_file.proofs.Verdict.{bounds}
 use Rattle.policy_file.specs.File.{countOf}
 use Rattle.policy_file.specs.Whole.{policyRefusal, labelCount, pairsOf, AcceptedPolicy}
 use Rattle.policy_file.specs.declared.Policy.{Policy}
-use Rattle.trees.proofs.Fewest.{hangs-tree, least-fewest, plan-hangs, plan-lowest}
+use Rattle.trees.proofs.Covering.{plan-covers}
+use Rattle.trees.proofs.Fewest.{hangs-tree, least-fewest, plan-hangs}
 use Rattle.trees.proofs.Sums.{sum-apart, sumWhere-where}
 use Rattle.trees.proofs.Tables.{SameParents, total-agree, smallest-agree}
+use Rattle.trees.proofs.Ties.{plan-preferred}
 use Rattle.trees.proofs.Totals.{total-weights}
 use Rattle.trees.proofs.Widths.{total-bound}
 use Rattle.trees.specs.Order.{Order}
 use Rattle.trees.specs.Sums.{sum, sumWhere}
-use Rattle.trees.specs.Trees.{top, Tree, Fewest}
-use Rattle.trees.specs.Weights.{weight, smallest, total, weights, plan, LeastWeight, HangsLeast}
+use Rattle.trees.specs.Trees.{top, Covers, Tree, Fewest}
+use Rattle.trees.specs.Weights.{weight, smallest, total, weights, plan, LeastWeight, HangsLeast, Preferred}
 use Rattle.weights.proofs.Reading.{entries-filled, entries-past, heldWeight-top, heldWeight-under, entries-weight, entries-weight-past, entries-size, entries-size-past}
 use Rattle.weights.specs.Tables.{entries, weightTable, setSize, sizeTable}
 use Rattle.plan_answers.proofs.PolicyOrder.{policy-order}
@@ -78,9 +80,13 @@ module _ (file : List ℕ) (ok : AcceptedPolicy file) where
   pub plan-answer-tree : Tree n R parents
   plan-answer-tree = hangs-tree plan-answer-hangs
 
-  -- 01: "of several, the one with the lowest number"
-  pub plan-answer-lowest : (m : ℕ) → m < n → m ≢ top → (q : ℕ) → LeastWeight n count R le q m → parents m ≤ q
-  plan-answer-lowest m hm ne q L = subst (λ (p : ℕ). p ≤ q) (parents-same .agree m hm ne) (plan-lowest order count m hm ne q L)
+  -- 02, Ask 1: "Of several parents of least weight the plan shall take the one with the highest number"
+  pub plan-answer-preferred : (m : ℕ) → m < n → m ≢ top → (q : ℕ) → LeastWeight n count R le q m → Preferred (parents m) q
+  plan-answer-preferred m hm ne q L = subst (λ (p : ℕ). Preferred p q) (parents-same .agree m hm ne) (plan-preferred order count hm ne q L)
+
+  -- 02, Ask 1: "Every chosen parent then covers its child"
+  pub plan-answer-covers : (m : ℕ) → m < n → m ≢ top → Covers n R (parents m) m
+  plan-answer-covers m hm ne = subst (λ (p : ℕ). Covers n R p m) (parents-same .agree m hm ne) (plan-covers order count m hm ne)
 
   -- the total answered is that of the tree
   pub plan-answer-total : planOf file .total ≡ total n count le parents

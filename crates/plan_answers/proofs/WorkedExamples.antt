@@ -46,9 +46,9 @@ table a b c d = a ∷ b ∷ c ∷ d ∷ replicate 60 0
 abbrev pub listing : Plan
 listing = record { refusal = 0; zeros = replicate 3 0; total = 17; labels = 4; parents = table 0 0 0 2; weights = table 2 3 5 7; sizes = table 1 2 1 1 }
 
--- "Chain A 1, B 0, C 4: .. C hangs from A. Total 5."
+-- "Chain A 1, B 0, C 4: .. Total 5." By 02, Ask 1, C hangs from B.
 abbrev chained : Plan
-chained = record { refusal = 0; zeros = replicate 3 0; total = 5; labels = 3; parents = table 0 0 0 0; weights = table 1 0 4 0; sizes = table 1 2 1 0 }
+chained = record { refusal = 0; zeros = replicate 3 0; total = 5; labels = 3; parents = table 0 0 1 0; weights = table 1 0 4 0; sizes = table 1 1 1 0 }
 
 -- "One label with 7 accounts: total 7."
 abbrev single : Plan

@@ -60,7 +60,7 @@ pub E-answers : map (least 4 countE leE) (at (0 ∷ 0 ∷ 0 ∷ 1 ∷ []) ∷ at
 unfolding countE leE least total labelKeys plan best takes smallest inSmallest weight weighed sum sumWhere select
 E-answers = refl
 
--- ---- "Chain A 1, B 0, C 4: A and B both weigh 4 for C, and C hangs from A. Total 5."
+-- ---- "Chain A 1, B 0, C 4: A and B both weigh 4 for C", and by 02, Ask 1, C hangs from B. "Total 5."
 
 unfoldable pub countC : ℕ → ℕ
 countC = at (1 ∷ 0 ∷ 4 ∷ [])
@@ -72,13 +72,27 @@ pub chain-weights : map (λ p. weight 3 countC leC p 2) (0 ∷ 1 ∷ []) ≡ 4 �
 unfolding countC leC weight weighed sumWhere
 chain-weights = refl
 
-pub chain-parent : plan 3 countC leC 2 ≡ 0
+pub chain-parent : plan 3 countC leC 2 ≡ 1
 unfolding countC leC plan best takes weight weighed sumWhere
 chain-parent = refl
 
 pub chain-total : total 3 countC leC (plan 3 countC leC) ≡ 5
 unfolding countC leC total labelKeys plan best takes smallest inSmallest weight weighed sum sumWhere select
 chain-total = refl
+
+-- ---- "Counting labels where accounts are meant": with one account at each label, CURVES and CONV32 tie for ACCRUED, and label 2 is taken. That is the
+-- right parent in E, where the trap "no longer shows" (02, Ask 1). It shows in E with the two exchanged, SUITE 2, CONV32 5, CURVES 3, ACCRUED 4.
+
+unfoldable pub countX : ℕ → ℕ
+countX = at (2 ∷ 5 ∷ 3 ∷ 4 ∷ [])
+
+pub exchanged-total : total 4 countX leE (plan 4 countX leE) ≡ 17
+unfolding countX leE total labelKeys plan best takes smallest inSmallest weight weighed sum sumWhere select
+exchanged-total = refl
+
+pub labels-counted : map (λ count. total 4 count leE (plan 4 (λ l. 1) leE)) (countE ∷ countX ∷ []) ≡ 17 ∷ 19 ∷ []
+unfolding countE countX leE total labelKeys plan best takes smallest inSmallest weight weighed sum sumWhere select
+labels-counted = refl
 
 -- ---- the demand at E
 

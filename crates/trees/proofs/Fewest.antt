@@ -10,10 +10,10 @@ use lib.Dec.{eqb}
 use borrow.Author.Tests.{eqb-true, eqb-false, eq-eqb, ne-eqb, not-true}
 use Rattle.trees.specs.Trees.{top, Tree, Fewest}
 use Rattle.trees.specs.Order.{Order}
-use Rattle.trees.specs.Weights.{weight, total, weights, LeastWeight, HangsLeast, plan, least}
+use Rattle.trees.specs.Weights.{weight, total, weights, HangsLeast, plan, least}
 use Rattle.trees.proofs.Sums.{sumWhere-mono, sumWhere-tight}
 use Rattle.trees.proofs.Totals.{total-weights, total-enough, total-needed}
-use Rattle.trees.proofs.Ties.{plan-least, plan-takes-lowest}
+use Rattle.trees.proofs.Ties.{plan-least}
 
 -- there is one fewest
 pub fewest-unique : {n : ℕ} {count : ℕ → ℕ} {R : ℕ → ℕ → Type 0} {j k : ℕ} → Fewest n count R j → Fewest n count R k → j ≡ k
@@ -32,10 +32,6 @@ module _ {n : ℕ} {R : ℕ → ℕ → Type 0} {le : ℕ → ℕ → Bool} (O :
 
   pub plan-tree : Tree n R (plan n count le)
   plan-tree = hangs-tree plan-hangs
-
-  pub plan-lowest : (m : ℕ) → m < n → m ≢ top → (q : ℕ) → LeastWeight n count R le q m → plan n count le m ≤ q
-  unfolding plan
-  plan-lowest m hm ne q L = plan-takes-lowest O count hm ne q L
 
   -- ---- least weights and the least total
 

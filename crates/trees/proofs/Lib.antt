@@ -5,6 +5,7 @@ pub mod Order
 pub mod Smallest
 pub mod Totals
 pub mod Ties
+pub mod Covering
 pub mod Fewest
 pub mod Published
 pub mod Examples

@@ -106,31 +106,31 @@ cond-cong : (b : Bool) (x y : ℕ) → (b ≡ true → x ≡ y) → cond b x 0 �
 cond-cong true x y h = h refl
 cond-cong false x y h = refl
 
-cond-mono : (b : Bool) (x y : ℕ) → (b ≡ true → x ≤ y) → cond b x 0 ≤ cond b y 0
-cond-mono true x y h = h refl
-cond-mono false x y h = le-refl 0
-
-cond-le : (b : Bool) (x : ℕ) → cond b x 0 ≤ x
-cond-le true x = le-refl x
-cond-le false x = omega arith
+cond-mono : (b c : Bool) (x y : ℕ) → (b ≡ true → (c ≡ true) × (x ≤ y)) → cond b x 0 ≤ cond c y 0
+cond-mono true c x y h = rw (h refl .0) (h refl .1)
+cond-mono false c x y h = omega arith
 
 pub sumWhere-where : (t : ℕ → Bool) (f g : ℕ → ℕ) (n : ℕ) → ((i : ℕ) → i < n → t i ≡ true → f i ≡ g i) → sumWhere t f n ≡ sumWhere t g n
 sumWhere-where t f g n h =
     rw (sumWhere-sum t f n, sumWhere-sum t g n) (sum-cong (λ i. cond (t i) (f i) 0) (λ i. cond (t i) (g i) 0) n (λ i l. cond-cong (t i) (f i) (g i) (h i l)))
 
+-- where a test passes another passes too, with no less to count
+pub sumWhere-within : (t u : ℕ → Bool) (f g : ℕ → ℕ) (n : ℕ) → ((i : ℕ) → i < n → t i ≡ true → (u i ≡ true) × (f i ≤ g i)) → sumWhere t f n ≤ sumWhere u g n
+sumWhere-within t u f g n h =
+    rw (sumWhere-sum t f n, sumWhere-sum u g n) (sum-mono (λ i. cond (t i) (f i) 0) (λ i. cond (u i) (g i) 0) n (λ i l. cond-mono (t i) (u i) (f i) (g i) (h i l)))
+
 pub sumWhere-mono : (t : ℕ → Bool) (f g : ℕ → ℕ) (n : ℕ) → ((i : ℕ) → i < n → t i ≡ true → f i ≤ g i) → sumWhere t f n ≤ sumWhere t g n
-sumWhere-mono t f g n h =
-    rw (sumWhere-sum t f n, sumWhere-sum t g n) (sum-mono (λ i. cond (t i) (f i) 0) (λ i. cond (t i) (g i) 0) n (λ i l. cond-mono (t i) (f i) (g i) (h i l)))
+sumWhere-mono t f g n h = sumWhere-within t t f g n (λ i l y. (y, h i l y))
 
 pub sumWhere-tight : (t : ℕ → Bool) (f g : ℕ → ℕ) (n : ℕ) → ((i : ℕ) → i < n → t i ≡ true → f i ≤ g i) → sumWhere t g n ≤ sumWhere t f n
     → (i : ℕ) → i < n → t i ≡ true → f i ≡ g i
 sumWhere-tight t f g n h e i l y =
-    let same = sum-tight (λ i. cond (t i) (f i) 0) (λ i. cond (t i) (g i) 0) n (λ i l. cond-mono (t i) (f i) (g i) (h i l))
+    let same = sum-tight (λ i. cond (t i) (f i) 0) (λ i. cond (t i) (g i) 0) n (λ i l. cond-mono (t i) (t i) (f i) (g i) (λ y. (y, h i l y)))
     (rw (sumWhere-sum t f n, sumWhere-sum t g n) at e) i l in
     rw y at same
 
 pub sumWhere-le : (t : ℕ → Bool) (f : ℕ → ℕ) (n : ℕ) → sumWhere t f n ≤ sum f n
-sumWhere-le t f n = rw (sumWhere-sum t f n) (sum-mono (λ i. cond (t i) (f i) 0) f n (λ i l. cond-le (t i) (f i)))
+sumWhere-le t f n = rw (sumWhere-sum t f n) (sum-mono (λ i. cond (t i) (f i) 0) f n (λ i l. cond-mono (t i) true (f i) (f i) (λ y. (refl, le-refl (f i)))))
 
 -- the term at one place beside the terms at all others
 pub sum-apart : (f : ℕ → ℕ) (k n : ℕ) → k < n → sum f n ≡ f k + sumWhere (λ i. not (eqb i k)) f n

@@ -1,5 +1,5 @@
--- The plan's rule: a strictly higher label of least weight and, of several, the one with the lowest number. Theorems use these two laws,
--- `plan-least` and `plan-takes-lowest`; code that chooses uses the laws of one turn, `best-take`, `best-keep` and `best-pass`.
+-- The plan's rule: a strictly higher label of least weight, preferred to every other such label. Theorems use these two laws, `plan-least` and
+-- `plan-preferred`.
 use Prim.Native.Nat.{ℕ, zero, suc, _≤_, _<_}
 use mathlib.Core.Path.{_≡_}
 use mathlib.Core.Logic.{_⊎_, inl, inr, _≢_}
@@ -9,44 +9,22 @@ use native.Mathlib.Omega.{arith}
 use borrow.Author.Tests.{leb-true, leb-false}
 use Rattle.trees.specs.Trees.{top, Above}
 use Rattle.trees.specs.Order.{Order}
-use Rattle.trees.specs.Weights.{weight, LeastWeight, takes, best, plan}
+use Rattle.trees.specs.Weights.{weight, LeastWeight, Preferred, takes, best, plan}
 use Rattle.trees.proofs.Lists.{answers, not-both}
 use Rattle.trees.proofs.Order.{test-yes, test-says, above-lower, top-above}
 
--- what taking the place and not taking it say of the two weights
-pub takes-less : (later sofar : ℕ) → takes later sofar ≡ true → later < sofar
+-- The rule in two steps. p is later than all that were weighed before, among them b, the best so far.
+-- p takes the place: then p weighs no more than any q that b weighs no more than, and of equals p is preferred
+take-step : (p q : ℕ) (later sofar other : ℕ) → takes later sofar ≡ true → q < p → sofar ≤ other → (later ≤ other) × (other ≤ later → Preferred p q)
 unfolding takes
-takes-less later sofar e = omega (arith, leb-true)
+take-step p q later sofar other t l h = (omega (arith, leb-true), λ e. omega (arith, leb-true))
 
-pub takes-not : (later sofar : ℕ) → takes later sofar ≡ false → sofar ≤ later
+-- b keeps its place: then b weighs no more than p, and of equals b is preferred
+keep-step : (b p : ℕ) (later sofar : ℕ) → takes later sofar ≡ false → b ≤ p → (sofar ≤ later) × (later ≤ sofar → Preferred b p)
 unfolding takes
-takes-not later sofar e = omega (arith, leb-false)
+keep-step b p later sofar t l = (omega (arith, leb-false), λ e. omega (arith, leb-false))
 
-pub less-takes : (later sofar : ℕ) → later < sofar → takes later sofar ≡ true
-less-takes later sofar h = go (answers (takes later sofar))
-  where
-    go : (takes later sofar ≡ true) ⊎ (takes later sofar ≡ false) → takes later sofar ≡ true
-    go (inl t) = t
-    go (inr t) = absurd (omega (arith, takes-not later sofar t))
-
-pub not-takes : (later sofar : ℕ) → sofar ≤ later → takes later sofar ≡ false
-not-takes later sofar h = go (answers (takes later sofar))
-  where
-    go : (takes later sofar ≡ true) ⊎ (takes later sofar ≡ false) → takes later sofar ≡ false
-    go (inl t) = absurd (omega (arith, takes-less later sofar t))
-    go (inr t) = t
-
--- one turn of the loop: a label above m that weighs less than the best so far takes its place, and no other does
-pub best-take : (n : ℕ) (count : ℕ → ℕ) (le : ℕ → ℕ → Bool) (m p : ℕ) → le m p ≡ true → weight n count le p m < weight n count le (best n count le m p) m
-    → best n count le m (suc p) ≡ p
-unfolding best
-best-take n count le m p e h = rw (e, less-takes (weight n count le p m) (weight n count le (best n count le m p) m) h)
-
-pub best-keep : (n : ℕ) (count : ℕ → ℕ) (le : ℕ → ℕ → Bool) (m p : ℕ) → le m p ≡ true → weight n count le (best n count le m p) m ≤ weight n count le p m
-    → best n count le m (suc p) ≡ best n count le m p
-unfolding best
-best-keep n count le m p e h = rw (e, not-takes (weight n count le p m) (weight n count le (best n count le m p) m) h)
-
+-- one turn of the loop: a label that is not above m
 pub best-pass : (n : ℕ) (count : ℕ → ℕ) (le : ℕ → ℕ → Bool) (m p : ℕ) → le m p ≡ false → best n count le m (suc p) ≡ best n count le m p
 unfolding best
 best-pass n count le m p e = rw e
@@ -68,11 +46,11 @@ module _ {n : ℕ} {R : ℕ → ℕ → Type 0} {le : ℕ → ℕ → Bool} (O :
     above : Above n R b m
     early : b ≤ k
     least : (q : ℕ) → q < k → le m q ≡ true → weight n count le b m ≤ weight n count le q m
-    lowest : (q : ℕ) → q < k → le m q ≡ true → weight n count le q m ≤ weight n count le b m → b ≤ q
+    preferred : (q : ℕ) → q < k → le m q ≡ true → weight n count le q m ≤ weight n count le b m → Preferred b q
 
   best-best : (k : ℕ) → k ≤ m → Best k (best n count le m k)
   unfolding best
-  best-best zero h = record { above = top-above O hm ne; early = omega arith; least = λ q l e. absurd (omega arith); lowest = λ q l e w. absurd (omega arith) }
+  best-best zero h = record { above = top-above O hm ne; early = omega arith; least = λ q l e. absurd (omega arith); preferred = λ q l e w. absurd (omega arith) }
   best-best (suc p) h = go (best-best p (omega arith)) (answers (le m p))
     where
       w : ℕ → ℕ
@@ -81,41 +59,41 @@ module _ {n : ℕ} {R : ℕ → ℕ → Type 0} {le : ℕ → ℕ → Bool} (O :
       b : ℕ
       b = best n count le m p
 
-      taken : Best p b → le m p ≡ true → w p < w b → Best (suc p) p
-      taken B e l = record {
+      taken : Best p b → le m p ≡ true → takes (w p) (w b) ≡ true → Best (suc p) p
+      taken B e t = record {
         above = record { label = omega arith; other = λ q. omega arith; over = test-says O hm (omega arith) e };
         early = omega arith;
-        least = λ q k f. by q k f (eq-or-lt-of-le (le-of-suc-le-suc k));
-        lowest = λ q k f v. to q k f v (eq-or-lt-of-le (le-of-suc-le-suc k));
+        least = λ q k f. by q f (eq-or-lt-of-le (le-of-suc-le-suc k));
+        preferred = λ q k f v. to q f v (eq-or-lt-of-le (le-of-suc-le-suc k));
       }
         where
-          by : (q : ℕ) → q < suc p → le m q ≡ true → (q ≡ p) ⊎ (q < p) → w p ≤ w q
-          by q k f (inl s) = rw s (omega arith)
-          by q k f (inr s) = omega (arith, B .least q s f)
+          by : (q : ℕ) → le m q ≡ true → (q ≡ p) ⊎ (q < p) → w p ≤ w q
+          by q f (inl s) = rw s (le-refl (w p))
+          by q f (inr s) = take-step p q (w p) (w b) (w q) t s (B .least q s f) .0
 
-          to : (q : ℕ) → q < suc p → le m q ≡ true → w q ≤ w p → (q ≡ p) ⊎ (q < p) → p ≤ q
-          to q k f v (inl s) = omega arith
-          to q k f v (inr s) = absurd (omega (arith, B .least q s f))
+          to : (q : ℕ) → le m q ≡ true → w q ≤ w p → (q ≡ p) ⊎ (q < p) → Preferred p q
+          to q f v (inl s) = omega arith
+          to q f v (inr s) = take-step p q (w p) (w b) (w q) t s (B .least q s f) .1 v
 
-      kept : Best p b → (le m p ≡ true → w b ≤ w p) → Best (suc p) b
-      kept B l = record {
+      kept : Best p b → (le m p ≡ true → takes (w p) (w b) ≡ false) → Best (suc p) b
+      kept B t = record {
         above = B .above;
         early = omega (arith, B .early);
         least = λ q k f. by q f (eq-or-lt-of-le (le-of-suc-le-suc k));
-        lowest = λ q k f v. to q f v (eq-or-lt-of-le (le-of-suc-le-suc k));
+        preferred = λ q k f v. to q f v (eq-or-lt-of-le (le-of-suc-le-suc k));
       }
         where
           by : (q : ℕ) → le m q ≡ true → (q ≡ p) ⊎ (q < p) → w b ≤ w q
-          by q f (inl s) = rw s (l (rw s at f))
+          by q f (inl s) = rw s (keep-step b p (w p) (w b) (t (rw s at f)) (B .early) .0)
           by q f (inr s) = B .least q s f
 
-          to : (q : ℕ) → le m q ≡ true → w q ≤ w b → (q ≡ p) ⊎ (q < p) → b ≤ q
-          to q f v (inl s) = omega (arith, B .early)
-          to q f v (inr s) = B .lowest q s f v
+          to : (q : ℕ) → le m q ≡ true → w q ≤ w b → (q ≡ p) ⊎ (q < p) → Preferred b q
+          to q f v (inl s) = rw s (keep-step b p (w p) (w b) (t (rw s at f)) (B .early) .1 (rw s at v))
+          to q f v (inr s) = B .preferred q s f v
 
       weigh : Best p b → le m p ≡ true → (takes (w p) (w b) ≡ true) ⊎ (takes (w p) (w b) ≡ false) → Best (suc p) (best n count le m (suc p))
-      weigh B e (inl t) = rw (best-take n count le m p e (takes-less (w p) (w b) t)) (taken B e (takes-less (w p) (w b) t))
-      weigh B e (inr t) = rw (best-keep n count le m p e (takes-not (w p) (w b) t)) (kept B (λ d. takes-not (w p) (w b) t))
+      weigh B e (inl t) = rw (e, t) (taken B e t)
+      weigh B e (inr t) = rw (e, t) (kept B (λ d. t))
 
       go : Best p b → (le m p ≡ true) ⊎ (le m p ≡ false) → Best (suc p) (best n count le m (suc p))
       go B (inl e) = weigh B e (answers (takes (w p) (w b)))
@@ -129,9 +107,9 @@ module _ {n : ℕ} {R : ℕ → ℕ → Type 0} {le : ℕ → ℕ → Bool} (O :
       record { above = B .above; least = λ q a. B .least q (above-lower O hm a) (test-yes O hm (a .label) (a .over)) }
 
   -- the second law: the rule for ties
-  pub plan-takes-lowest : (q : ℕ) → LeastWeight n count R le q m → plan n count le m ≤ q
+  pub plan-preferred : (q : ℕ) → LeastWeight n count R le q m → Preferred (plan n count le m) q
   unfolding plan
-  plan-takes-lowest q L =
+  plan-preferred q L =
       let B = best-best m (omega arith) in
       let a = L .above in
-      B .lowest q (above-lower O hm a) (test-yes O hm (a .label) (a .over)) (L .least (best n count le m m) (B .above))
+      B .preferred q (above-lower O hm a) (test-yes O hm (a .label) (a .over)) (L .least (best n count le m m) (B .above))

@@ -3,7 +3,7 @@
 -- Nothing here speaks of a table, a weight or a smallest set. Document 003 is cited by its own numbers.
 use Prim.Native.Nat.{ℕ, _≤_, _<_}
 use mathlib.Core.Path.{_≡_}
-use mathlib.Core.Logic.{_≢_, _↔_}
+use mathlib.Core.Logic.{_⊎_, _≢_, _↔_}
 use mathlib.Core.List.{List, [], _∷_, List·Memᴰ}
 use lib.ListN.{length}
 use Rattle.trees.specs.Sums.{sum}
@@ -17,6 +17,11 @@ pub record Above (n : ℕ) (R : ℕ → ℕ → Type 0) (p m : ℕ) : Type 0 whe
   pub label : p < n
   pub other : p ≢ m
   pub over : R m p
+
+-- 02, Ask 1: "covers its child: no label lies between them" (003: pm is an arc of the Hasse diagram)
+pub record Covers (n : ℕ) (R : ℕ → ℕ → Type 0) (p m : ℕ) : Type 0 where
+  pub above : Above n R p m
+  pub between : (x : ℕ) → x < n → R m x → R x p → (x ≡ m) ⊎ (x ≡ p)
 
 -- "A derivation tree gives each label but the top one parent strictly above it. The parent need not cover it."
 -- (003, Definition 1: the arcs of the derivation out-tree are those from parent m to m; by Lemma 1 each such choice is a spanning out-tree)

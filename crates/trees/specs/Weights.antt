@@ -5,7 +5,7 @@ use mathlib.Core.Logic.{_≢_}
 use mathlib.Core.Bool.{Bool, cond, not, _&&_, _||_}
 use mathlib.Core.List.{List}
 use lib.ListN.{length}
-use lib.Dec.{eqb, ltb}
+use lib.Dec.{eqb, leb}
 use Rattle.trees.specs.Sums.{sum, sumWhere, select}
 use Rattle.trees.specs.Trees.{top, Above}
 
@@ -46,9 +46,14 @@ pub record LeastWeight (n : ℕ) (count : ℕ → ℕ) (R : ℕ → ℕ → Type
 pub record HangsLeast (n : ℕ) (count : ℕ → ℕ) (R : ℕ → ℕ → Type 0) (le : ℕ → ℕ → Bool) (parent : ℕ → ℕ) : Type 0 where
   pub hangs : (m : ℕ) → m < n → m ≢ top → LeastWeight n count R le (parent m) m
 
--- "of several, the one with the lowest number": labels are gone through upwards, and a later one takes the place of the best so far only if it weighs less
+-- 02, Ask 1: "Of several parents of least weight the plan shall take the one with the highest number": p, the one taken, has a
+-- number no smaller than that of any other such parent q
+abbrev pub Preferred : (p q : ℕ) → Type 0
+Preferred p q = q ≤ p
+
+-- so, labels being gone through upwards, a later one takes the place of the best so far if it weighs no more
 unfoldable pub takes : (later sofar : ℕ) → Bool
-takes later sofar = ltb later sofar
+takes later sofar = leb later sofar
 
 -- the best of the labels below k that are above m, beginning with the top
 unfoldable pub best : (n : ℕ) (count : ℕ → ℕ) (le : ℕ → ℕ → Bool) (m k : ℕ) → ℕ
@@ -57,7 +62,7 @@ best n count le m (suc p) =
     let b : ℕ = best n count le m p in
     cond (le m p && takes (weight n count le p m) (weight n count le b m)) p b
 
--- "The plan takes for each label a parent of least weight; of several, the one with the lowest number." The labels above m have smaller numbers.
+-- "The plan takes for each label a parent of least weight", of several the preferred one. The labels above m have smaller numbers.
 -- The plan's tree; the top's own entry is the top.
 unfoldable pub plan : (n : ℕ) (count : ℕ → ℕ) (le : ℕ → ℕ → Bool) → ℕ → ℕ
 plan n count le m = best n count le m m

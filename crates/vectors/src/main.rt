@@ -1,5 +1,5 @@
-// Runs the vectors of FIPS 180-4 and RFC 4231 and the worked examples of document 01 that are run and not proved, one line a
-// case. The cases stand on standard input: how many there are, and for each its name, the operation, a number and four files;
+// Runs the vectors of FIPS 180-4 and RFC 4231 and the worked examples of documents 01 and 02 that are run and not proved, one
+// line a case. The cases stand on standard input: how many there are, and for each its name, the operation, a number and four files;
 // what an operation does not take is 0 or empty. tests/vectors.py makes the files stdin and stdout.
 mod envelopes;
 mod hashes;

@@ -30,8 +30,8 @@ pub E-offered : map (λ parents. keyTotal 4 countE (setSize 4 leE (at parents)))
 unfolding countE leE keyTotal accountKeys setSize smallest inSmallest sum select
 E-offered = refl
 
--- "Chain A 1, B 0, C 4: A and B both weigh 4 for C, and C hangs from A. Total 5."
-pub chain-parents : parentTable 3 countC leC ≡ 0 ∷ 0 ∷ 0 ∷ replicate 61 0
+-- "Chain A 1, B 0, C 4: A and B both weigh 4 for C", and by 02, Ask 1, C hangs from B. "Total 5."
+pub chain-parents : parentTable 3 countC leC ≡ 0 ∷ 0 ∷ 1 ∷ replicate 61 0
 unfolding countC leC parentTable listed plan best takes weight weighed sumWhere
 chain-parents = refl
 

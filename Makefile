@@ -43,8 +43,8 @@ MAJOR := $(word 1,$(NUMBERS))
 
 # What belongs to the issuer and what to the desk. A part is a crate, and one object of the library; the last is in both.
 SIDES := issuer desk
-PARTS_issuer := hash_c policy_c plan_c issuer_c refusals_c
-PARTS_desk := desk_c refusals_c
+PARTS_issuer := hash_c policy_c plan_c issuer_c seal_c refusals_c
+PARTS_desk := desk_c open_c refusals_c
 PROGRAMS_issuer := build/bin/yendlowa build/bin/yendlowa-encode
 PROGRAMS_desk := build/bin/yendlowa-desk
 MANUALS_issuer := build/man/yendlowa.1 build/man/yendlowa-encode.1
@@ -65,6 +65,7 @@ FOLDERS := $(addprefix build/,bin include lib man obj shared)
 
 COMPARE := build/compare
 BENCH := build/bench
+YARDSTICKS := build/sha256.o build/chacha20_poly1305.o
 OPENSSL = $(shell echo '\#include <openssl/evp.h>' | $(CC) -E - >/dev/null 2>&1 && echo '--cfg openssl -l crypto')
 LINKED := -L build/lib -l static=yendlowa-issuer -l static=yendlowa-desk
 HARDENED := -Wl,-z,defs -Wl,-z,relro -Wl,-z,now
@@ -225,10 +226,10 @@ bench:
 $(COMPARE): $(ARCHIVES) $(wildcard tests/compare/*.rs)
 	@env -u MAKEFLAGS $(RUSTC) --edition 2021 -C opt-level=1 -C codegen-units=1 $(LINKED) tests/compare/main.rs -o $@
 
-$(BENCH): $(ARCHIVES) build/sha256.o $(wildcard tests/bench/*.rs tests/compare/*.rs)
-	@env -u MAKEFLAGS $(RUSTC) --edition 2021 -C opt-level=3 $(LINKED) -C link-arg=build/sha256.o $(OPENSSL) tests/bench/bench.rs -o $@
+$(BENCH): $(ARCHIVES) $(YARDSTICKS) $(wildcard tests/bench/*.rs tests/compare/*.rs)
+	@env -u MAKEFLAGS -u MFLAGS $(RUSTC) --edition 2021 -C opt-level=3 $(LINKED) $(YARDSTICKS:%=-C link-arg=%) $(OPENSSL) tests/bench/bench.rs -o $@
 
-build/sha256.o: tests/bench/sha256.c | build/lib
+$(YARDSTICKS): build/%.o: tests/bench/%.c | build/lib
 	@$(CC) -O3 -Wall -Wextra -c $< -o $@
 
 clean:

@@ -1,6 +1,6 @@
 /*
- * The desk's side of Yendlowa: the keys that follow from a key envelope, and the labels that it opens. Link with -lyendlowa-desk,
- * which holds nothing of the issuer. The libraries are for x86-64 Linux.
+ * The desk's side of Yendlowa: the keys that follow from a key envelope, the labels that it opens, and the texts of sealed module
+ * files. Link with -lyendlowa-desk, which holds nothing of the issuer. The libraries are for x86-64 Linux.
  *
  * No function allocates, keeps anything between calls or does input or output, so any number of threads may call them at
  * once. Every function may be called with any bytes. A byte array is passed as a pointer and a length; the pointer may
@@ -68,6 +68,21 @@ yendlowa_labels_read yendlowa_labels(const uint8_t *envelope, size_t envelope_le
  * Refuses  nothing.
  */
 size_t yendlowa_envelope_records(const uint8_t *envelope, size_t envelope_length);
+
+/*
+ * The text of a module file that the issuer sealed for a label that the envelope opens. The label's name stands in the file. No
+ * byte of text is written before the file's tag is known to be right.
+ *
+ * Takes    an envelope, a sealed file, and a buffer, which must not overlap them; YENDLOWA_MODULE_ROOM bytes always suffice, and
+ *          YENDLOWA_SEALED_MORE fewer than the file has are enough.
+ * Gives    the length of the text, which starts at the buffer's start and may be 0; no byte after it is touched.
+ * Refuses  as `yendlowa_derive` does, except 20; then 22, 20 for the name in the file, 16 and 23. The buffer is then unchanged.
+ *
+ * 23 does not tell a damaged file from a wrong key: an envelope of another policy or root secret, or with an altered secret, leads to
+ * it too.
+ */
+yendlowa_written yendlowa_open(const uint8_t *envelope, size_t envelope_length, const uint8_t *sealed, size_t sealed_length,
+                               uint8_t *out, size_t out_length);
 
 #ifdef __cplusplus
 }

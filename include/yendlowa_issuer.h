@@ -1,6 +1,6 @@
 /*
- * The issuer's side of Yendlowa: policies read, planned and weighed, the issuer's keys, and envelopes written. Link with
- * -lyendlowa-issuer. The libraries are for x86-64 Linux.
+ * The issuer's side of Yendlowa: policies read, planned and weighed, the issuer's keys, envelopes written, and module files
+ * sealed. Link with -lyendlowa-issuer. The libraries are for x86-64 Linux.
  *
  * No function allocates, keeps anything between calls or does input or output, so any number of threads may call them at
  * once. Every function may be called with any bytes. A byte array is passed as a pointer and a length; the pointer may
@@ -197,6 +197,30 @@ typedef struct yendlowa_root_fingerprint {
  * Refuses  15.
  */
 yendlowa_root_fingerprint yendlowa_fingerprint(const uint8_t *root, size_t root_length);
+
+/* ---- sealed module files ---- */
+
+/*
+ * A module's text, sealed under its label's key: with an envelope that opens the label `yendlowa_open` gives the text back, and it
+ * refuses a file that was altered. Name and nonce stand in the file for everybody to read.
+ *
+ * NEVER USE THE SAME NONCE TWICE UNDER ONE KEY. Whoever has two files that were sealed with the same nonce under the same key learns
+ * how their texts differ, without the key, and can make files that pass for sealed ones. This function keeps nothing between
+ * calls and cannot notice. So keep a counter of 12 bytes for each root secret, beside it. FOR EACH SEAL RAISE THE COUNTER BY 1 AND
+ * SAVE IT, AND ONLY THEN SEAL with its new value, whatever the policy and the label, even if the call before failed or the same text
+ * is sealed again. Never seal with a copy of it elsewhere, and never set it back, not from a backup either: if it is lost, go on
+ * from a number that was surely never reached.
+ *
+ * Takes    a policy file, the label's name (8 bytes, padded with spaces), the root secret (32 bytes), a nonce (12 bytes) that was
+ *          never used before with this root secret, a text of up to YENDLOWA_MODULE_ROOM bytes, which may be empty, and a buffer with
+ *          YENDLOWA_SEALED_MORE bytes more than the text; YENDLOWA_SEALED_ROOM bytes always suffice.
+ * Gives    the length of the sealed file, which starts at the buffer's start; no byte after it is touched.
+ * Refuses  as `yendlowa_read_policy` does; then 13, 15, 22 (the nonce does not have 12 bytes, or the text is too long) and 16. The
+ *          buffer is then unchanged.
+ */
+yendlowa_written yendlowa_seal(const uint8_t *policy, size_t policy_length, const uint8_t *name, size_t name_length,
+                               const uint8_t *root, size_t root_length, const uint8_t *nonce, size_t nonce_length,
+                               const uint8_t *text, size_t text_length, uint8_t *out, size_t out_length);
 
 /* ---- hash ---- */
 

@@ -31,6 +31,17 @@ extern "C" {
  */
 #define YENDLOWA_ENVELOPE_ROOM 2742
 
+/*
+ * Sealed module files: SM, the label's name (8 bytes), the nonce, the ciphertext, which is as long as the text, and a tag of 16 bytes.
+ * The cipher is ChaCha20-Poly1305 (RFC 8439) under the label's key; mark and name are its additional data. A text of more
+ * than YENDLOWA_MODULE_ROOM bytes or a sealed file of more than YENDLOWA_SEALED_ROOM is refused whatever its bytes are, so reading one
+ * byte more than that from a file is enough.
+ */
+#define YENDLOWA_NONCE 12          /* the bytes of a nonce */
+#define YENDLOWA_MODULE_ROOM 32768 /* the most bytes that a text to be sealed can have */
+#define YENDLOWA_SEALED_MORE 38    /* how many bytes more than its text a sealed file has */
+#define YENDLOWA_SEALED_ROOM 32806 /* the two together: no sealed file has more bytes */
+
 enum yendlowa_refusal {
     YENDLOWA_ACCEPTED = 0,         /* not refused */
 
@@ -63,7 +74,12 @@ enum yendlowa_refusal {
     YENDLOWA_NOT_LICENSED = 20,    /* the envelope has no label with this name (a name has exactly 8 bytes) */
 
     /* hash, HMAC */
-    YENDLOWA_TOO_LONG = 21         /* a key or message has more than 65,536 bytes */
+    YENDLOWA_TOO_LONG = 21,        /* a key or message has more than 65,536 bytes */
+
+    /* sealed module file */
+    YENDLOWA_NOT_SEALED = 22,      /* a sealed file has fewer than 38 or more than 32,806 bytes, or a mark other than SM; when
+                                      sealing: the text has more than 32,768 bytes, or the nonce does not have 12 */
+    YENDLOWA_BAD_TAG = 23          /* the tag differs: the file was altered, or sealed under another key */
 };
 
 typedef struct yendlowa_text {
@@ -74,7 +90,7 @@ typedef struct yendlowa_text {
  * The words of a refusal, in English and without a line feed: "the root secret does not have 32 bytes" for 15.
  *
  * Takes    any number.
- * Gives    its words; "accepted" for 0, and "no such refusal" above 21.
+ * Gives    its words; "accepted" for 0, and "no such refusal" above 23.
  * Refuses  nothing.
  */
 yendlowa_text yendlowa_refusal_text(uint8_t number);

@@ -1,5 +1,5 @@
 # What tests/commands, tests/desk, tests/statuses and tests/operations share: the programs on the PATH, an empty folder to work in with policy E, a root
-# secret and trees in it, and cases that compare output, messages and exit status. Run after 'make programs'.
+# secret, trees, a nonce and a text to seal in it, and cases that compare output, messages and exit status. Run after 'make programs'.
 # Keys and envelopes are compared with crates/vectors/stdout, which tests/vectors.py made from Python's hmac and
 # document 01: policy E, root secret 0, 1, .. 31. Totals, lengths and refusals are those of document 01.
 set -u
@@ -43,6 +43,9 @@ words=(
     "the first record is missing, is not a KS, or does not carry the header's name"
     "the place in the KD record is not less than its own"
     "the envelope has no label with this name"
+    "a key or message has more than 65,536 bytes"
+    "not a sealed file, a text above 32,768 bytes, or a nonce that is not 12 bytes"
+    "the tag differs: the file was altered, or sealed under another key"
 )
 
 # same NAME GIVEN WANTED: a case.
@@ -106,6 +109,8 @@ sum() {
 }
 
 bytes {0..31} >root
+bytes {0..11} >nonce
+echo "CLEAN = DIRTY - ACCRUED" >module
 tree 0 0 0 2 >plan.tree
 tree 0 0 0 1 >curves.tree
 tree 0 0 0 0 >flat.tree

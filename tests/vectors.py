@@ -1,6 +1,7 @@
 #!/usr/bin/env python3
 """Makes what the program `vectors` reads and what it has to write, from sources that know nothing of the project: the digests
-that FIPS 180-4's examples and RFC 4231 give, Python's hashlib and hmac for the other messages, and documents 01 and 02.
+that FIPS 180-4's examples and RFC 4231 give, Python's hashlib and hmac for the other messages, the values that RFC 8439 gives,
+with which the ciphers of the package `cryptography` have to agree, and documents 01 and 02.
 
 python3 tests/vectors.py    writes crates/vectors/stdin and crates/vectors/stdout
 """
@@ -8,7 +9,11 @@ import hashlib
 import hmac
 import pathlib
 
-# The standards' own values; hashlib has to agree with each.
+from cryptography.hazmat.primitives.ciphers import Cipher, algorithms
+from cryptography.hazmat.primitives.ciphers.aead import ChaCha20Poly1305
+from cryptography.hazmat.primitives.poly1305 import Poly1305
+
+# The standards' own values; hashlib, and cryptography, have to agree with each.
 GIVEN = {
     "sha256 of nothing": "e3b0c44298fc1c149afbf4c8996fb92427ae41e4649b934ca495991b7852b855",
     "sha256 of abc": "ba7816bf8f01cfea414140de5dae2223b00361a396177a9cb410ff61f20015ad",
@@ -26,7 +31,7 @@ GIVEN = {
 LIMIT = 65_536
 
 # The operations, as the program numbers them.
-DIGEST, MAC, POLICY, PLAN, TREE, KEY, ENVELOPE, DERIVED = range(8)
+DIGEST, MAC, POLICY, PLAN, TREE, KEY, ENVELOPE, DERIVED, BLOCK, ONE_TIME, ENCRYPTED, TAG, SEALED, MODULE, OPENED = range(15)
 
 cases = []
 answers = []
@@ -260,6 +265,177 @@ for name, file, asked, answer in (
     ("a header with account 0", b"EN\0\0CONV32  ", padded("CONV32"), "REFUSED 17"),
 ):
     case(name, DERIVED, answer, (file, asked))
+
+# ChaCha20, Poly1305 and the two together: the examples of RFC 8439, with the texts of its appendix.
+SUNSCREEN = b"Ladies and Gentlemen of the class of '99: If I could offer you only one tip for the future, sunscreen would be it."
+CONTRIBUTION = (
+    b'Any submission to the IETF intended by the Contributor for publication as all or part of an IETF Internet-Draft or RFC and any '
+    b'statement made within the context of an IETF activity is considered an "IETF Contribution". Such statements include oral '
+    b"statements in IETF sessions, as well as written and electronic communications made at any time or place, which are addressed to"
+)
+JABBERWOCKY = (
+    b"'Twas brillig, and the slithy toves\nDid gyre and gimble in the wabe:\nAll mimsy were the borogoves,\nAnd the mome raths outgrabe."
+)
+DRAFTS = (
+    "Internet-Drafts are draft documents valid for a maximum of six months and may be updated, replaced, or obsoleted by other documents "
+    "at any time. It is inappropriate to use Internet-Drafts as reference material or to cite them other than as /\u201cwork in progress./\u201d"
+).encode()
+ZERO, ONE_KEY, RISING, HIGH = bytes(32), bytes(31) + b"\1", bytes(range(32)), bytes(range(128, 160))
+JABBERWOCKY_KEY = bytes.fromhex("1c9240a5eb55d38af333888604f6b5f0473917c1402b80099dca5cbc207075c0")
+NONCE, NONCE_2 = bytes(12), bytes(11) + b"\2"
+
+
+def chacha20(key, counter, nonce, text):
+    return Cipher(algorithms.ChaCha20(key, counter.to_bytes(4, "little") + nonce), None).encryptor().update(text)
+
+
+def block(name, key, counter, nonce, given):
+    example(name, chacha20(key, counter, nonce, bytes(64)), given, BLOCK, (key, nonce), counter)
+
+
+def one_time(name, key, nonce, given):
+    example(name, chacha20(key, 0, nonce, bytes(32)), given, ONE_TIME, (key, nonce), 32)
+
+
+def encrypted(name, key, counter, nonce, text, given):
+    example(name, chacha20(key, counter, nonce, text), given, ENCRYPTED, (key, nonce, b"", text), counter)
+
+
+def tag(name, key, message, given):
+    example(name, Poly1305.generate_tag(key, message), given, TAG, (key, message))
+
+
+def sealed(name, key, nonce, aad, text, given):
+    example(name, ChaCha20Poly1305(key).encrypt(nonce, text, aad), given, SEALED, (key, nonce, aad, text))
+
+
+def example(name, computed, given, operation, files, counted=0):
+    GIVEN[name] = given
+    case(name, operation, computed.hex(), files, counted)
+
+
+def words(*parts):
+    """Bytes from hexadecimal, each part filled with zeros to 16 bytes."""
+    return b"".join(bytes.fromhex(part).ljust(16, b"\0") for part in parts)
+
+
+block(
+    "RFC 8439, 2.3.2", RISING, 1, bytes.fromhex("000000090000004a00000000"),
+    "10f1e7e4d13b5915500fdd1fa32071c4c7d1f4c733c068030422aa9ac3d46c4ed2826446079faa0914c2d705d98b02a2b5129cd1de164eb9cbd083e8a2503c4e",
+)
+block(
+    "RFC 8439, A.1, 1", ZERO, 0, NONCE,
+    "76b8e0ada0f13d90405d6ae55386bd28bdd219b8a08ded1aa836efcc8b770dc7da41597c5157488d7724e03fb8d84a376a43b8f41518a11cc387b669b2ee6586",
+)
+block(
+    "RFC 8439, A.1, 2", ZERO, 1, NONCE,
+    "9f07e7be5551387a98ba977c732d080dcb0f29a048e3656912c6533e32ee7aed29b721769ce64e43d57133b074d839d531ed1f28510afb45ace10a1f4b794d6f",
+)
+block(
+    "RFC 8439, A.1, 3", ONE_KEY, 1, NONCE,
+    "3aeb5224ecf849929b9d828db1ced4dd832025e8018b8160b82284f3c949aa5a8eca00bbb4a73bdad192b5c42f73f2fd4e273644c8b36125a64addeb006c13a0",
+)
+block(
+    "RFC 8439, A.1, 4", b"\0\xff" + bytes(30), 2, NONCE,
+    "72d54dfbf12ec44b362692df94137f328fea8da73990265ec1bbbea1ae9af0ca13b25aa26cb4a648cb9b9d1be65b2c0924a66c54d545ec1b7374f4872e99f096",
+)
+block(
+    "RFC 8439, A.1, 5", ZERO, 0, NONCE_2,
+    "c2c64d378cd536374ae204b9ef933fcd1a8b2288b3dfa49672ab765b54ee27c78a970e0e955c14f3a88e741b97c286f75f8fc299e8148362fa198a39531bed6d",
+)
+encrypted(
+    "RFC 8439, 2.4.2", RISING, 1, bytes.fromhex("000000000000004a00000000"), SUNSCREEN,
+    "6e2e359a2568f98041ba0728dd0d6981e97e7aec1d4360c20a27afccfd9fae0bf91b65c5524733ab8f593dabcd62b3571639d624e65152ab8f530c359f0861d8"
+    "07ca0dbf500d6a6156a38e088a22b65e52bc514d16ccf806818ce91ab77937365af90bbf74a35be6b40b8eedf2785e42874d",
+)
+encrypted(
+    "RFC 8439, A.2, 1", ZERO, 0, NONCE, bytes(64),
+    "76b8e0ada0f13d90405d6ae55386bd28bdd219b8a08ded1aa836efcc8b770dc7da41597c5157488d7724e03fb8d84a376a43b8f41518a11cc387b669b2ee6586",
+)
+encrypted(
+    "RFC 8439, A.2, 2", ONE_KEY, 1, NONCE_2, CONTRIBUTION,
+    "a3fbf07df3fa2fde4f376ca23e82737041605d9f4f4f57bd8cff2c1d4b7955ec2a97948bd3722915c8f3d337f7d370050e9e96d647b7c39f56e031ca5eb6250d"
+    "4042e02785ececfa4b4bb5e8ead0440e20b6e8db09d881a7c6132f420e52795042bdfa7773d8a9051447b3291ce1411c680465552aa6c405b7764d5e87bea85a"
+    "d00f8449ed8f72d0d662ab052691ca66424bc86d2df80ea41f43abf937d3259dc4b2d0dfb48a6c9139ddd7f76966e928e635553ba76c5c879d7b35d49eb2e62b"
+    "0871cdac638939e25e8a1e0ef9d5280fa8ca328b351c3c765989cbcf3daa8b6ccc3aaf9f3979c92b3720fc88dc95ed84a1be059c6499b9fda236e7e818b04b0b"
+    "c39c1e876b193bfe5569753f88128cc08aaa9b63d1a16f80ef2554d7189c411f5869ca52c5b83fa36ff216b9c1d30062bebcfd2dc5bce0911934fda79a86f6e6"
+    "98ced759c3ff9b6477338f3da4f9cd8514ea9982ccafb341b2384dd902f3d1ab7ac61dd29c6f21ba5b862f3730e37cfdc4fd806c22f221",
+)
+encrypted(
+    "RFC 8439, A.2, 3", JABBERWOCKY_KEY, 42, NONCE_2, JABBERWOCKY,
+    "62e6347f95ed87a45ffae7426f27a1df5fb69110044c0d73118effa95b01e5cf166d3df2d721caf9b21e5fb14c616871fd84c54f9d65b283196c7fe4f60553eb"
+    "f39c6402c42234e32a356b3e764312a61a5532055716ead6962568f87d3f3f7704c6a8d1bcd1bf4d50d6154b6da731b187b58dfd728afa36757a797ac188d1",
+)
+tag("RFC 8439, 2.5.2", bytes.fromhex("85d6be7857556d337f4452fe42d506a80103808afb0db2fd4abff6af4149f51b"), b"Cryptographic Forum Research Group", "a8061dc1305136c6c22b8baf0c0127a9")
+S = "36e5f6b5c5e06070f0efca96227a863e"
+tag("RFC 8439, A.3, 1", ZERO, bytes(64), "00000000000000000000000000000000")
+tag("RFC 8439, A.3, 2", words("", S), CONTRIBUTION, S)
+tag("RFC 8439, A.3, 3", words(S, ""), CONTRIBUTION, "f3477e7cd95417af89a6b8794c310cf0")
+tag("RFC 8439, A.3, 4", JABBERWOCKY_KEY, JABBERWOCKY, "4541669a7eaaee61e708dc7cbcc5eb62")
+tag("RFC 8439, A.3, 5", words("02", ""), words("ff" * 16), "03000000000000000000000000000000")
+tag("RFC 8439, A.3, 6", words("02", "ff" * 16), words("02"), "03000000000000000000000000000000")
+tag("RFC 8439, A.3, 7", words("01", ""), words("ff" * 16, "f0" + "ff" * 15, "11"), "05000000000000000000000000000000")
+tag("RFC 8439, A.3, 8", words("01", ""), words("ff" * 16, "fb" + "fe" * 15, "01" * 16), "00000000000000000000000000000000")
+tag("RFC 8439, A.3, 9", words("02", ""), words("fd" + "ff" * 15), "faffffffffffffffffffffffffffffff")
+WIDE = words("0100000000000000" "04", "")
+LOW = words("e33594d7505e43b9", "3394d7505e4379cd" "01")
+tag("RFC 8439, A.3, 10", WIDE, LOW + words("", "01"), "14000000000000005500000000000000")
+tag("RFC 8439, A.3, 11", WIDE, LOW + words(""), "13000000000000000000000000000000")
+one_time("RFC 8439, 2.6.2", HIGH, bytes.fromhex("000000000001020304050607"), "8ad5a08b905f81cc815040274ab29471a833b637e3fd0da508dbb8e2fdd1a646")
+one_time("RFC 8439, A.4, 1", ZERO, NONCE, "76b8e0ada0f13d90405d6ae55386bd28bdd219b8a08ded1aa836efcc8b770dc7")
+one_time("RFC 8439, A.4, 2", ONE_KEY, NONCE_2, "ecfa254f845f647473d3cb140da9e87606cb33066c447b87bc2666dde3fbb739")
+one_time("RFC 8439, A.4, 3", JABBERWOCKY_KEY, NONCE_2, "965e3bc6f9ec7ed9560808f4d229f94b137ff275ca9b3fcbdd59deaad23310ae")
+sealed(
+    "RFC 8439, 2.8.2", HIGH, bytes.fromhex("070000004041424344454647"), bytes.fromhex("50515253c0c1c2c3c4c5c6c7"), SUNSCREEN,
+    "d31a8d34648e60db7b86afbc53ef7ec2a4aded51296e08fea9e2b5a736ee62d63dbea45e8ca9671282fafb69da92728b1a71de0a9e060b2905d6a5b67ecd3b36"
+    "92ddbd7f2d778b8c9803aee328091b58fab324e4fad675945585808b4831d7bc3ff4def08e4b7a9de576d26586cec64b61161ae10b594f09e26a7e902ecbd060"
+    "0691",
+)
+sealed(
+    "RFC 8439, A.5", JABBERWOCKY_KEY, bytes.fromhex("000000000102030405060708"), bytes.fromhex("f33388860000000000004e91"), DRAFTS,
+    "64a0861575861af460f062c79be643bd5e805cfd345cf389f108670ac76c8cb24c6cfc18755d43eea09ee94e382d26b0bdb7b73c321b0100d4f03b7f355894cf"
+    "332f830e710b97ce98c8a84abd0b948114ad176e008d33bd60f982b1ff37c8559797a06ef4f0ef61c186324e2b3506383606907b6a7c02b0f9f6157b53c867e4"
+    "b9166c767b804d46a59b5216cde7a4e99040c5a40433225ee282a1b0a06c523eaf4534d7f83fa1155b0047718cbc546a0d072b04b3564eea1b422273f548271a"
+    "0bb2316053fa76991955ebd63159434ecebb4e466dae5a1073a6727627097a1049e617d91d361094fa68f0ff77987130305beaba2eda04df997b714d6c6f2c29"
+    "a6ad5cb4022b02709beead9d67890cbb22392336fea1851f38",
+)
+
+
+def module(label, nonce, text):
+    """The sealed file of a text."""
+    head = b"SM" + padded(label)
+    return head + nonce + ChaCha20Poly1305(key_of(label)).encrypt(nonce, text, head)
+
+
+def told(content):
+    return f"{len(content)} bytes, {hashlib.sha256(content).hexdigest()}"
+
+
+# Modules of E, of the lengths about a block of either cipher and the limit. What is sealed is a's; what is opened has other bytes, into a buffer of a's.
+NONCE_3 = bytes(11) + b"\3"
+ASKED = padded("ACCRUED") + ROOT + NONCE_3
+LENGTHS = (0, 1, 15, 16, 17, 63, 64, 65, 32_767, 32_768)
+for length in LENGTHS:
+    text = b"a" * length
+    case(f"ACCRUED sealed, {length} bytes", MODULE, told(module("ACCRUED", NONCE_3, text)), (E, ASKED, text, b"a" * (length + 38)))
+for length in LENGTHS:
+    text = bytes(i % 97 for i in range(length))
+    case(f"ACCRUED opened, {length} bytes", OPENED, told(text), (envelope("CONV32", 1), module("ACCRUED", NONCE_3, text), b"", b"a" * length))
+TEXT = b"the text of a module"
+FILE = module("ACCRUED", NONCE_3, TEXT)
+for name, operation, files, answer in (
+    ("ACCRUED sealed, 32769 bytes", MODULE, (E, ASKED, b"a" * 32_769, b"a" * 32_807), 22),
+    ("ACCRUED sealed, nonce of 11 bytes", MODULE, (E, ASKED[:-1], TEXT, b"a" * 58), 22),
+    ("RATES sealed, nonce of 11 bytes", MODULE, (E, padded("RATES") + ASKED[8:-1], TEXT, b"a" * 58), 13),
+    ("ACCRUED sealed, a buffer of 57 bytes", MODULE, (E, ASKED, TEXT, b"a" * 57), 16),
+    ("37 bytes opened", OPENED, (envelope("CONV32", 1), FILE[:37], b"", b"a" * 20), 22),
+    ("32807 bytes opened", OPENED, (envelope("CONV32", 1), b"SM" + padded("ACCRUED") + b"a" * 32_797, b"", b"a" * 32_769), 22),
+    ("CURVES opened from CONV32", OPENED, (envelope("CONV32", 1), module("CURVES", NONCE_3, TEXT), b"", b""), 20),
+    ("ACCRUED opened, a buffer of 18 bytes, another tag", OPENED, (envelope("CONV32", 1), FILE[:-1], b"", b"a" * 18), 16),
+    ("ACCRUED opened, another tag", OPENED, (envelope("CONV32", 1), FILE[:-1], b"", b"a" * 19), 23),
+    ("37 bytes opened, no envelope", OPENED, (b"", FILE[:37], b"", b""), 17),
+):
+    case(name, operation, f"REFUSED {answer}", files)
 
 program = pathlib.Path(__file__).parent.parent / "crates/vectors"
 (program / "stdin").write_bytes(number(len(cases)) + b"".join(cases))

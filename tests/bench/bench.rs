@@ -1,6 +1,6 @@
-//! Every operation of the compiled library beside a plain Rust program for the same job, SHA-256 and HMAC beside C
-//! and OpenSSL too, each from the input's bytes to the answer. All of a row run in turn, round after round; a time
-//! is that of the median round, and the ratio the median of the rounds' ratios. A ratio below 1 says that ours is
+//! Every operation of the compiled library beside a plain Rust program for the same job, SHA-256, HMAC, seal and open
+//! beside C and OpenSSL too, each from the input's bytes to the answer. All of a row run in turn, round after round; a
+//! time is that of the median round, and a ratio the median of the rounds' ratios. A ratio below 1 says that ours is
 //! the faster.
 //!
 //! bench          one table of all operations
@@ -20,6 +20,7 @@ mod plan;
 #[path = "../compare/policy.rs"]
 mod policy;
 mod policies;
+mod sealing;
 mod yardsticks;
 
 use policies::{chain, deep, full, growing, two_layers};
@@ -46,9 +47,9 @@ fn median(list: impl Iterator<Item = f64>) -> f64 {
     list[list.len() / 2]
 }
 
-/// The microseconds that a call of each version takes, and the first's time as a part of the second's. All have to
-/// give the same.
-fn measure<T: PartialEq + std::fmt::Debug>(what: &str, versions: &mut [Version<T>]) -> (Vec<f64>, f64) {
+/// The microseconds that a call of each version takes, and the first's time as a part of each one's. All have to give
+/// the same.
+fn measure<T: PartialEq + std::fmt::Debug>(what: &str, versions: &mut [Version<T>]) -> (Vec<f64>, Vec<f64>) {
     let answer = versions[0]();
     for version in &mut *versions {
         assert_eq!(version(), answer, "{what}: the answers differ");
@@ -57,20 +58,24 @@ fn measure<T: PartialEq + std::fmt::Debug>(what: &str, versions: &mut [Version<T
     let calls = (ROUND / one).ceil() as usize;
     let mut round = || versions.iter_mut().map(|version| timed(version, calls)).collect::<Vec<f64>>();
     let rounds: Vec<Vec<f64>> = (0..=ROUNDS).map(|_| round()).skip(1).collect();
-    let times = (0..rounds[0].len()).map(|v| median(rounds.iter().map(|round| round[v])) / 1000.0);
-    (times.collect(), median(rounds.iter().map(|round| round[0] / round[1])))
+    let each = 0..rounds[0].len();
+    let times = each.clone().map(|v| median(rounds.iter().map(|round| round[v])) / 1000.0);
+    let ratios = each.map(|v| median(rounds.iter().map(|round| round[0] / round[v])));
+    (times.collect(), ratios.collect())
 }
 
 /// Measures the versions (ours, Rust, and where there are any C and OpenSSL) and prints the row.
 fn row<T: PartialEq + std::fmt::Debug>(what: &str, mut versions: Vec<Version<T>>) {
-    let (times, ratio) = measure(what, &mut versions);
-    let time = |version: usize| times.get(version).map_or("-".to_string(), |time| format!("{time:.2}"));
-    println!("{}", line(what, [time(0), time(1), format!("{ratio:.2}"), time(2), time(3)]));
+    let (times, ratios) = measure(what, &mut versions);
+    let shown = |of: &[f64], version: usize| of.get(version).map_or("-".to_string(), |number| format!("{number:.2}"));
+    let time = |version: usize| shown(&times, version);
+    let ratio = |version: usize| shown(&ratios, version);
+    println!("{}", line(what, [time(0), time(1), ratio(1), time(2), ratio(2), time(3)]));
 }
 
 /// A line of the table.
-fn line(what: &str, [ours, rust, ratio, c, openssl]: [String; 5]) -> String {
-    format!("{what:<46}{ours:>9}{rust:>9}{ratio:>11}{c:>9}{openssl:>9}")
+fn line(what: &str, [ours, rust, to_rust, c, to_c, openssl]: [String; 6]) -> String {
+    format!("{what:<45}{ours:>8}{rust:>8}{to_rust:>11}{c:>8}{to_c:>8}{openssl:>9}")
 }
 
 fn two<'a, T>(ours: impl FnMut() -> T + 'a, plain: impl FnMut() -> T + 'a) -> Vec<Version<'a, T>> {
@@ -158,10 +163,40 @@ fn desk_rows() {
     row("envelope_records, 64 records", records);
 }
 
+/// Texts sealed for the only label of a policy, and opened with the envelope of an account there: one HMAC makes the
+/// key. C and OpenSSL are given the secret, and read neither policy nor envelope.
+fn sealed_rows() {
+    let (policy, name, nonce) = (black_box(&b"LBMODULE00\0\x05"[..]), black_box(b"MODULE00"), black_box(&[9; 12]));
+    let (envelope, root) = (issued(policy, name), black_box(&ROOT));
+    let bytes: Vec<u8> = (0..32_768).map(|i| (i * 7 + i / 251) as u8).collect();
+    for length in [32_768, 64] {
+        let text = black_box(&bytes[..length]);
+        let [mut ours, mut rust, mut c, mut openssl] = [(); 4].map(|_| vec![0; length + 38]);
+        let with = yardsticks::Sealing { secret: root, name, nonce, text };
+        let mut versions = two(
+            || ours::seal(policy, name, root, nonce, text, &mut ours),
+            || sealing::seal(policy, name, root, nonce, text, &mut rust),
+        );
+        versions.extend(yardsticks::seal(with, &mut c, &mut openssl));
+        let openssl_ran = versions.len() == 4;
+        row(&format!("seal, {length} bytes, a policy of one label"), versions);
+        let same = ours == rust && ours == c && (!openssl_ran || ours == openssl);
+        assert!(same, "seal: the files differ");
+        let (file, envelope) = (black_box(&ours[..]), black_box(&envelope[..]));
+        let [mut ours, mut rust, mut c, mut openssl] = [(); 4].map(|_| vec![0; length]);
+        let mut versions =
+            two(|| ours::open(envelope, file, &mut ours), || sealing::open(envelope, file, &mut rust));
+        versions.extend(yardsticks::open(root, file, &mut c, &mut openssl));
+        row(&format!("open, {length} bytes, an envelope of one record"), versions);
+        let same = ours == text && rust == text && c == text && (!openssl_ran || openssl == text);
+        assert!(same, "open: the texts differ");
+    }
+}
+
 /// A measured cell of the second table: ours in microseconds, and the ratio.
 fn cell<T: PartialEq + std::fmt::Debug>(mut versions: Vec<Version<T>>) -> String {
-    let (times, ratio) = measure("growth", &mut versions);
-    format!("{:>9.2} ({ratio:.2})", times[0])
+    let (times, ratios) = measure("growth", &mut versions);
+    format!("{:>9.2} ({:.2})", times[0], ratios[1])
 }
 
 /// Couples of labels stand one strictly above the other; the issue is to the top.
@@ -190,10 +225,11 @@ fn main() {
     if std::env::args().nth(1).as_deref() == Some("growth") {
         return growth();
     }
-    let heads = ["ours", "Rust", "ours/Rust", "C", "OpenSSL"];
+    let heads = ["ours", "Rust", "ours/Rust", "C", "ours/C", "OpenSSL"];
     println!("{}", line("microseconds a call", heads.map(String::from)));
     hash_rows();
     policy_rows();
     issuer_rows();
     desk_rows();
+    sealed_rows();
 }

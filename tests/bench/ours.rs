@@ -54,6 +54,33 @@ pub fn fingerprint(root: &[u8]) -> RootFingerprint {
     unsafe { yendlowa_fingerprint(root.as_ptr(), root.len()) }
 }
 
+pub fn seal(policy: &[u8], name: &[u8], root: &[u8], nonce: &[u8], text: &[u8], out: &mut [u8]) -> Written {
+    let (policy, length, name, name_length) = (policy.as_ptr(), policy.len(), name.as_ptr(), name.len());
+    let (root, root_length, nonce, nonce_length) = (root.as_ptr(), root.len(), nonce.as_ptr(), nonce.len());
+    let (text, text_length, into, room) = (text.as_ptr(), text.len(), out.as_mut_ptr(), out.len());
+    unsafe {
+        yendlowa_seal(
+            policy,
+            length,
+            name,
+            name_length,
+            root,
+            root_length,
+            nonce,
+            nonce_length,
+            text,
+            text_length,
+            into,
+            room,
+        )
+    }
+}
+
+pub fn open(envelope: &[u8], file: &[u8], out: &mut [u8]) -> Written {
+    let (envelope, length, into, room) = (envelope.as_ptr(), envelope.len(), out.as_mut_ptr(), out.len());
+    unsafe { yendlowa_open(envelope, length, file.as_ptr(), file.len(), into, room) }
+}
+
 pub fn derive(envelope: &[u8], name: &[u8]) -> Derived {
     unsafe { yendlowa_derive(envelope.as_ptr(), envelope.len(), name.as_ptr(), name.len()) }
 }

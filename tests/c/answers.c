@@ -22,7 +22,7 @@ void *key_into(void *answer, at policy, size_t length, at name, size_t name_leng
 void *derive_into(void *answer, at envelope, size_t length, at name, size_t name_length) __asm__("yendlowa_derive");
 void *labels_into(void *answer, at envelope, size_t length) __asm__("yendlowa_labels");
 
-/* One call on up to three inputs. Those that lend a buffer lend always the same one. */
+/* One call on up to five inputs. Those that lend a buffer lend always the same one. */
 typedef void call(void *answer, const bytes in[INPUTS]);
 static uint8_t out[YENDLOWA_DRAWING_ROOM];
 
@@ -58,6 +58,17 @@ static void issue(void *answer, const bytes *in)
 {
     yendlowa_written w =
         yendlowa_issue(in[0].at, in[0].length, in[1].at, in[1].length, 5, in[2].at, in[2].length, out, sizeof out);
+    memcpy(answer, &w, sizeof w);
+}
+static void seal(void *answer, const bytes *in)
+{
+    yendlowa_written w = yendlowa_seal(in[0].at, in[0].length, in[1].at, in[1].length, in[2].at, in[2].length, in[3].at, in[3].length,
+                                       in[4].at, in[4].length, out, sizeof out);
+    memcpy(answer, &w, sizeof w);
+}
+static void open_sealed(void *answer, const bytes *in)
+{
+    yendlowa_written w = yendlowa_open(in[0].at, in[0].length, in[1].at, in[1].length, out, sizeof out);
     memcpy(answer, &w, sizeof w);
 }
 static void issuer_key(void *answer, const bytes *in)
@@ -101,6 +112,10 @@ static const struct {
     {pad_name, sizeof(yendlowa_written), YENDLOWA_ACCEPTED, {TEXT("CONV32")}},
     {issue, sizeof(yendlowa_written), YENDLOWA_ACCEPTED, {TEXT(E), TEXT(NAME), TEXT(ROOT)}},
     {issue, sizeof(yendlowa_written), YENDLOWA_ROOT_LENGTH, {TEXT(E), TEXT(NAME), TEXT("")}},
+    {seal, sizeof(yendlowa_written), YENDLOWA_ACCEPTED, {TEXT(E), TEXT(NAME), TEXT(ROOT), TEXT(NONCE), TEXT("abc")}},
+    {seal, sizeof(yendlowa_written), YENDLOWA_NOT_SEALED, {TEXT(E), TEXT(NAME), TEXT(ROOT), TEXT(""), TEXT("abc")}},
+    {open_sealed, sizeof(yendlowa_written), YENDLOWA_ACCEPTED, {TEXT(ENVELOPE), TEXT(SEALED)}},
+    {open_sealed, sizeof(yendlowa_written), YENDLOWA_BAD_TAG, {TEXT(ENVELOPE), TEXT(SEALED "!")}},
     {issuer_key, sizeof(yendlowa_label_key), YENDLOWA_ACCEPTED, {TEXT(E), TEXT(NAME), TEXT(ROOT)}},
     {issuer_key, sizeof(yendlowa_label_key), YENDLOWA_ROOT_LENGTH, {TEXT(E), TEXT(NAME), TEXT("")}},
     {fingerprint, sizeof(yendlowa_root_fingerprint), YENDLOWA_ACCEPTED, {TEXT(ROOT)}},

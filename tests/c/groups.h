@@ -9,6 +9,10 @@
 #define E_NAMES "SUITE   CURVES  CONV32  ACCRUED "
 #define ROOT "\0\1\2\3\4\5\6\7\10\11\12\13\14\15\16\17\20\21\22\23\24\25\26\27\30\31\32\33\34\35\36\37"
 
+/* "abc" sealed for CONV32, where its secret is ROOT; made by Python's package cryptography */
+#define NONCE "\0\0\0\0\0\0\0\0\0\0\0\1"
+#define SEALED "SMCONV32  " NONCE "\346\363\167" "\151\371\172\361\075\211\212\264\111\305\372\306\100\153\226\224"
+
 /* 64 labels and 512 pairs, with the text of its plan; the drawing of E */
 #define FULL_POLICY "tests/plan/full.policy"
 #define FULL_TEXT "tests/plan/full.txt"
@@ -22,6 +26,7 @@ void issuing(void);
 void fingerprints(void);
 void deriving(void);
 void names(void);
+void sealing(void);
 void rooms(void);
 void answers(void);
 void threads(void);

@@ -16,6 +16,7 @@ int main(void)
     everywhere("keys, and envelopes into buffers of every length", issuing);
     everywhere("fingerprints of root secrets", fingerprints);
     everywhere("envelopes read at the desk", deriving);
+    everywhere("module files sealed and opened", sealing);
     everywhere("the words of refusals, and names padded", names);
     everywhere("how much of a file decides", rooms);
     everywhere("every byte of an answer, whatever memory and stack held before", answers);

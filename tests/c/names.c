@@ -26,12 +26,14 @@ static const char *const words[] = {
     "the place in the KD record is not less than its own",
     "the envelope has no label with this name",
     "a key or message has more than 65,536 bytes",
+    "not a sealed file, a text above 32,768 bytes, or a nonce that is not 12 bytes",
+    "the tag differs: the file was altered, or sealed under another key",
 };
 enum { NUMBERS = sizeof words / sizeof *words };
 
 static void refusal_texts(void)
 {
-    check(NUMBERS == YENDLOWA_TOO_LONG + 1);
+    check(NUMBERS == YENDLOWA_BAD_TAG + 1);
     for (int number = 0; number <= UINT8_MAX; number++) {
         yendlowa_text expected = {""}, given = yendlowa_refusal_text((uint8_t)number);
         strcpy(expected.text, number < NUMBERS ? words[number] : "no such refusal");

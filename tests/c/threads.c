@@ -1,6 +1,8 @@
 /* No function keeps anything between calls: four threads at once, each on 64 kB of stack, get what one alone gets. */
 #include "groups.h"
 #include <pthread.h>
+#include <stdlib.h>
+#include <string.h>
 #include <yendlowa_desk.h>
 #include <yendlowa_issuer.h>
 
@@ -17,6 +19,21 @@ static bool issued_and_derived(uint32_t account)
     yendlowa_derived d = yendlowa_derive(envelope, w.length, (const uint8_t *)"ACCRUED ", 8);
     return w.length == 87 && envelope[3] == account && d.applications == 3
            && is_hex(d.key, sizeof d.key, "951355f2b697b42d128ba5745838a78397ac8e851815031725cccfbee68762a0");
+}
+
+/* the longest text, in memory of the thread's own that is not its stack */
+static bool sealed_and_opened(uint8_t *memory, uint8_t byte)
+{
+    static const uint8_t nonce[YENDLOWA_NONCE];
+    uint8_t envelope[YENDLOWA_ENVELOPE_ROOM], *text = memory, *file = memory + YENDLOWA_MODULE_ROOM;
+    memset(text, byte, YENDLOWA_MODULE_ROOM);
+    yendlowa_written w = yendlowa_issue(e, e_length, (const uint8_t *)"CONV32  ", 8, 1, root, 32, envelope, sizeof envelope);
+    yendlowa_written s = yendlowa_seal(e, e_length, (const uint8_t *)"ACCRUED ", 8, root, 32, nonce, sizeof nonce,
+                                       text, YENDLOWA_MODULE_ROOM, file, YENDLOWA_SEALED_ROOM);
+    memset(text, 0, YENDLOWA_MODULE_ROOM);
+    yendlowa_written o = yendlowa_open(envelope, w.length, file, s.length, text, YENDLOWA_MODULE_ROOM);
+    return s.length == YENDLOWA_SEALED_ROOM && o.length == YENDLOWA_MODULE_ROOM && text[0] == byte
+           && memcmp(text, text + 1, YENDLOWA_MODULE_ROOM - 1) == 0;
 }
 
 static bool planned(void)
@@ -38,7 +55,11 @@ static bool told(void)
 static void *turns(void *account)
 {
     size_t agreed = 0;
-    for (int i = 0; i < TURNS; i++) agreed += issued_and_derived(*(uint32_t *)account) && planned() && told();
+    uint8_t *memory = malloc(YENDLOWA_MODULE_ROOM + YENDLOWA_SEALED_ROOM);
+    if (memory == NULL) return NULL;
+    for (int i = 0; i < TURNS; i++)
+        agreed += issued_and_derived(*(uint32_t *)account) && planned() && told() && sealed_and_opened(memory, (uint8_t)(i + 1));
+    free(memory);
     return (void *)agreed;
 }
 

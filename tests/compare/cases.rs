@@ -13,6 +13,7 @@ use crate::plans::{self, Form};
 use crate::policy::{self, Policy};
 use crate::random::Random;
 use crate::records;
+use crate::sealing;
 use crate::sha256::Sha256;
 use crate::tree::{self, Planned};
 use std::time::Instant;
@@ -20,7 +21,7 @@ use std::time::Instant;
 /// From so many cases on, every refusal that an operation can give has to be among its answers.
 pub const ENOUGH: usize = 100_000;
 
-/// An operation, how a case of it is drawn and compared, and the refusals that document 01 gives it, 0 for none.
+/// An operation, how a case of it is drawn and compared, and the refusals that documents 01 and 02 give it, 0 for none.
 /// For the operations that count records these are the refusals of the file.
 struct Operation {
     name: &'static str,
@@ -33,10 +34,12 @@ const OF_TREE: &[u8] = &[0, 1, 2, 3, 4, 5, 6, 7, 8, 9, 10, 11, 12];
 const OF_TEXT: &[u8] = &[0, 1, 2, 3, 4, 5, 6, 7, 8, 9, 10, 16];
 const OF_KEY: &[u8] = &[0, 1, 2, 3, 4, 5, 6, 7, 8, 9, 10, 13, 15];
 const OF_ISSUE: &[u8] = &[0, 1, 2, 3, 4, 5, 6, 7, 8, 9, 10, 13, 14, 15, 16];
+const OF_SEAL: &[u8] = &[0, 1, 2, 3, 4, 5, 6, 7, 8, 9, 10, 13, 15, 16, 22];
 const OF_ENVELOPE: &[u8] = &[0, 2, 3, 5, 6, 7, 17, 18, 19];
 const OF_DERIVE: &[u8] = &[0, 2, 3, 5, 6, 7, 17, 18, 19, 20];
+const OF_OPEN: &[u8] = &[0, 2, 3, 5, 6, 7, 16, 17, 18, 19, 20, 22, 23];
 
-const OPERATIONS: [Operation; 15] = [
+const OPERATIONS: [Operation; 17] = [
     Operation { name: "sha256", run: sha256, refusals: &[0, 21] },
     Operation { name: "hmac_sha256", run: hmac_sha256, refusals: &[0, 21] },
     Operation { name: "read_policy", run: read_policy, refusals: OF_POLICY },
@@ -48,10 +51,12 @@ const OPERATIONS: [Operation; 15] = [
     Operation { name: "plan_dot", run: plan_dot, refusals: OF_TEXT },
     Operation { name: "issuer_key", run: issuer_key, refusals: OF_KEY },
     Operation { name: "issue", run: issue, refusals: OF_ISSUE },
+    Operation { name: "seal", run: seal, refusals: OF_SEAL },
     Operation { name: "fingerprint", run: fingerprint, refusals: &[0, 15] },
     Operation { name: "derive", run: derive, refusals: OF_DERIVE },
     Operation { name: "labels", run: labels, refusals: OF_ENVELOPE },
     Operation { name: "envelope_records", run: envelope_records, refusals: OF_ENVELOPE },
+    Operation { name: "open", run: open, refusals: OF_OPEN },
 ];
 
 /// What one case works with.
@@ -320,6 +325,39 @@ fn issue(case: &mut Case) {
     case.compare_written(second, room, input, |buffer| ours::issue(file, name, account, root, buffer));
 }
 
+fn nonce(random: &mut Random) -> Vec<u8> {
+    let length = match random.below(10) {
+        0 => random.choose(&[0, 1, 11, 13, 24]),
+        _ => 12,
+    };
+    random.bytes(length)
+}
+
+/// A text to seal: most are short, some about the limit.
+fn text(random: &mut Random) -> Vec<u8> {
+    let length = match random.below(40) {
+        0 => sealing::LONGEST - 1 + random.below(3),
+        1 => random.below(sealing::LONGEST),
+        2 => sealing::LONGEST + 1 + random.below(40_000),
+        3..=10 => random.choose(&[0, 1, 15, 16, 17, 63, 64, 65, 128]),
+        _ => random.below(600),
+    };
+    random.bytes(length)
+}
+
+fn seal(case: &mut Case) {
+    let file = policy_file(case);
+    let policy = policy::read(&file).unwrap_or_else(|_| files::any_policy(case.random));
+    let (name, root) = (issuers_name(case.random, &policy), root(case.random));
+    let (nonce, text) = (nonce(case.random), text(case.random));
+    let room = room(case.random, text.len() + sealing::MORE);
+    let second = issued(&file, case.hash, |issuer| sealing::seal(issuer, &name, &root, &nonce, &text, room));
+    let (file, name, root, nonce, text) = (&file[..], &name[..], &root[..], &nonce[..], &text[..]);
+    let shown = || [file, name, root, nonce, text].map(hex).join(", ");
+    let input = || format!("policy, name, root, nonce, text {}", shown());
+    case.compare_written(second, room, input, |out| ours::seal(file, name, root, nonce, text, out));
+}
+
 fn fingerprint(case: &mut Case) {
     let root = root(case.random);
     let second = fingerprints::fingerprint(case.hash, &root);
@@ -362,6 +400,39 @@ fn envelope_records(case: &mut Case) {
     let file = envelope_file(case).0;
     let (number, second) = (refusal(&Envelope::read(&file)), envelope::records_read(&file));
     case.compare(number, || hex(&file), ours::envelope_records(&file), second);
+}
+
+/// A file to open with an envelope: sealed under a key that the envelope gives, and whole, damaged, cut or continued;
+/// or with another name or key; or no sealed file at all.
+fn sealed_file(case: &mut Case, envelope: &[u8], of: &[Vec<u8>]) -> Vec<u8> {
+    let names = deriving::some_names(case.random, of);
+    let name = &names[case.random.below(names.len())];
+    let key = envelope::derive(case.hash, envelope, std::slice::from_ref(name))[0].map_or([0; 32], |found| found.0);
+    let text = text(case.random);
+    let random = &mut *case.random;
+    let nonce = std::array::from_fn(|_| random.byte());
+    let mut file = sealing::file(&key, name, nonce, &text);
+    match random.below(12) {
+        0 => return no_file(random, case.hash),
+        1 => file[random.below(10)] ^= 1 << random.below(8),
+        2 | 3 => {
+            let at = random.below(file.len());
+            file[at] ^= 1 << random.below(8);
+        }
+        4 => return other_length(random, file),
+        5 => file = sealing::file(&[1; 32], name, nonce, &text),
+        _ => {}
+    }
+    file
+}
+
+fn open(case: &mut Case) {
+    let (envelope, of) = envelope_file(case);
+    let file = sealed_file(case, &envelope, &of);
+    let room = room(case.random, file.len().saturating_sub(sealing::MORE));
+    let second = sealing::open(case.hash, &envelope, &file, room);
+    let input = || format!("envelope {}, sealed {}", hex(&envelope), hex(&file));
+    case.compare_written(second, room, input, |out| ours::open(&envelope, &file, out));
 }
 
 /// The cases that were run, by operation.

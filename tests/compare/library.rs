@@ -142,6 +142,28 @@ extern "C" {
         envelope: *mut u8,
         envelope_length: usize,
     ) -> Written;
+    pub fn yendlowa_seal(
+        policy: *const u8,
+        policy_length: usize,
+        name: *const u8,
+        name_length: usize,
+        root: *const u8,
+        root_length: usize,
+        nonce: *const u8,
+        nonce_length: usize,
+        text: *const u8,
+        text_length: usize,
+        out: *mut u8,
+        out_length: usize,
+    ) -> Written;
+    pub fn yendlowa_open(
+        envelope: *const u8,
+        envelope_length: usize,
+        sealed: *const u8,
+        sealed_length: usize,
+        out: *mut u8,
+        out_length: usize,
+    ) -> Written;
     pub fn yendlowa_fingerprint(root: *const u8, length: usize) -> RootFingerprint;
     pub fn yendlowa_derive(
         envelope: *const u8,

@@ -7,6 +7,7 @@
 
 mod brute;
 mod cases;
+mod chacha20_poly1305;
 mod deriving;
 mod envelope;
 mod files;
@@ -20,6 +21,7 @@ mod policy;
 mod random;
 mod reading;
 mod records;
+mod sealing;
 mod sha256;
 mod ties;
 mod tree;
@@ -38,6 +40,7 @@ fn groups(random: &mut Random, second: &sha256::Sha256) -> Vec<bool> {
         issuing::groups(random, second, issued),
         deriving::groups(random, second, issued),
         fingerprints::groups(random, second),
+        sealing::groups(random, second),
         ties::groups(random, second),
     ];
     let plans::Counts { plans, trees, texts } = counts;

@@ -149,6 +149,39 @@ pub fn issue(policy: &[u8], name: &[u8], account: u32, root: &[u8], envelope: &m
     })
 }
 
+/// The length of the sealed file that was written into the buffer, or the refusal.
+pub fn seal(
+    policy: &[u8],
+    name: &[u8],
+    root: &[u8],
+    nonce: &[u8],
+    text: &[u8],
+    out: &mut [u8],
+) -> Result<usize, u8> {
+    length(unsafe {
+        yendlowa_seal(
+            at(policy),
+            policy.len(),
+            at(name),
+            name.len(),
+            at(root),
+            root.len(),
+            at(nonce),
+            nonce.len(),
+            at(text),
+            text.len(),
+            at_mut(out),
+            out.len(),
+        )
+    })
+}
+
+/// The length of the text that was written into the buffer, or the refusal.
+pub fn open(envelope: &[u8], sealed: &[u8], out: &mut [u8]) -> Result<usize, u8> {
+    let (file, file_length) = (at(sealed), sealed.len());
+    length(unsafe { yendlowa_open(at(envelope), envelope.len(), file, file_length, at_mut(out), out.len()) })
+}
+
 /// The key and the number of applications, or the refusal. Beside a refusal stand 32 zero bytes and 0.
 pub fn derive(envelope: &[u8], name: &[u8]) -> Result<([u8; 32], u8), u8> {
     let derived = unsafe { yendlowa_derive(at(envelope), envelope.len(), at(name), name.len()) };

@@ -1,4 +1,4 @@
--- The first 4,096 bytes of a file decide what the programs answer, shown for all lists of bytes.
+-- The bytes that the programs read of a file decide what they answer, shown for all lists of bytes.
 use Prim.Native.Nat.{ℕ}
 use mathlib.Core.List.{List}
 use mathlib.Core.Path.{sym, _∙_}
@@ -11,7 +11,9 @@ use Rattle.issuer_answers.proofs.Front.{key-front, issued-front, buffer-front, 
 use Rattle.plan_answers.proofs.Front.{weigh-front, weigh-tree-front}
 use Rattle.policy_file.proofs.Front.{front-answers, front-records}
 use Rattle.plan_texts.proofs.Printed.{printed-front}
-use Rattle.claims.specs.Programs.{front, OfPlans, OfIssuer, OfDesk}
+use Rattle.open_answers.proofs.Front.{opened-front, text-front, opened-file-front, text-file-front}
+use Rattle.seal_answers.proofs.Front.{sealed-front, file-front, sealed-root-front, file-root-front, sealed-nonce-front, file-nonce-front, sealed-text-front, file-text-front}
+use Rattle.claims.specs.Programs.{front, OfPlans, OfIssuer, OfDesk, OfSealing, OfOpening}
 
 pub plans-from-front : (policy : List ℕ) → OfPlans policy
 plans-from-front policy = record {
@@ -38,3 +40,25 @@ desk-from-front envelope name = record {
   labels = sym (labels-front 4096 (omega arith) envelope);
   refused-at = sym (records-front 4096 (omega arith) envelope);
 }
+
+pub sealing-from-front : (policy name root nonce text out : List ℕ) (room : ℕ) → OfSealing policy name root nonce text out room
+sealing-from-front policy name root nonce text out room =
+    let p = front policy in
+    let r = front root in
+    let n = front nonce in
+    record {
+      sealed =
+          sym (sealed-front policy name root nonce text 4096 (omega arith) room ∙ sealed-root-front p name root nonce text 4096 (omega arith) room
+          ∙ sealed-nonce-front p name r nonce text 4096 (omega arith) room ∙ sealed-text-front p name r n text 32769 (omega arith) room);
+      written =
+          sym (file-front policy name root nonce text 4096 (omega arith) out ∙ file-root-front p name root nonce text 4096 (omega arith) out
+          ∙ file-nonce-front p name r nonce text 4096 (omega arith) out ∙ file-text-front p name r n text 32769 (omega arith) out);
+    }
+
+pub opening-from-front : (envelope file out : List ℕ) (room : ℕ) → OfOpening envelope file out room
+opening-from-front envelope file out room =
+    let e = front envelope in
+    record {
+      opened = sym (opened-front envelope file 4096 (omega arith) room ∙ opened-file-front e file 32807 (omega arith) room);
+      written = sym (text-front envelope file 4096 (omega arith) out ∙ text-file-front e file 32807 (omega arith) out);
+    }

@@ -1,4 +1,5 @@
--- The programs read no more than the first 4,096 bytes of a file. What they print and write is nevertheless that of the whole file, however long.
+-- The programs read no more than the first 4,096 bytes of a file; of a text that is to be sealed 32,769, and of a sealed file 32,807. What they print and write
+-- is nevertheless that of the whole file, however long.
 use Prim.Native.Nat.{ℕ}
 use mathlib.Core.List.{List}
 use mathlib.Core.Path.{_≡_}
@@ -14,6 +15,8 @@ use Rattle.issuer_answers.specs.Keys.{issuerKeyOf}
 use Rattle.plan_answers.specs.Weighing.{weighOf}
 use Rattle.policy_file.specs.Whole.{policyOf, policyRecordsRead}
 use Rattle.plan_texts.specs.Printed.{printed}
+use Rattle.open_answers.specs.Open.{openedOf, textAfter}
+use Rattle.seal_answers.specs.Seal.{sealedOf, fileAfter}
 
 -- what a program reads of a file
 abbrev pub front : List ℕ → List ℕ
@@ -41,3 +44,12 @@ pub record OfDesk (envelope name : List ℕ) : Type 0 where
   pub derived : derivedOf (front envelope) name ≡ derivedOf envelope name
   pub labels : envelopeLabels (front envelope) ≡ envelopeLabels envelope
   pub refused-at : envelopeRecordsRead (front envelope) ≡ envelopeRecordsRead envelope
+
+-- `yendlowa seal`, and `yendlowa-desk open`
+pub record OfSealing (policy name root nonce text out : List ℕ) (room : ℕ) : Type 0 where
+  pub sealed : sealedOf (front policy) name (front root) (front nonce) (take 32769 text) room ≡ sealedOf policy name root nonce text room
+  pub written : fileAfter (front policy) name (front root) (front nonce) (take 32769 text) out ≡ fileAfter policy name root nonce text out
+
+pub record OfOpening (envelope file out : List ℕ) (room : ℕ) : Type 0 where
+  pub opened : openedOf (front envelope) (take 32807 file) room ≡ openedOf envelope file room
+  pub written : textAfter (front envelope) (take 32807 file) out ≡ textAfter envelope file out

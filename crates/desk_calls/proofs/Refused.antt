@@ -7,7 +7,7 @@ use lib.ListN.{take}
 use Rattle.decimals.specs.Worded.{refusedText}
 use Rattle.outcomes.proofs.Ending.{not-both, ends-refusing}
 use Rattle.outcomes.specs.declared.Ended.{Ended}
-use Rattle.desk_calls.specs.Ran.{Performed, derived, listed, undone, Ran, performed, helped, versioned, failed}
+use Rattle.desk_calls.specs.Ran.{Performed, derived, listed, opened, undone, Ran, performed, helped, versioned, failed}
 
 verb-refused : (verb : ℕ) (e : Ended) → Performed verb e → e .ok ≡ true → e .refusal ≢ 0 → take (e .length) (e .text) ≡ refusedText (e .refusal)
 verb-refused verb e h ok nz = go h
@@ -15,6 +15,7 @@ verb-refused verb e h ok nz = go h
     go : Performed verb e → take (e .length) (e .text) ≡ refusedText (e .refusal)
     go (derived k h) = ends-refusing _ _ e (h .2) ok nz
     go (listed k h) = ends-refusing _ _ e (h .1) ok nz
+    go (opened k h) = ends-refusing _ _ e (h .2) ok nz
     go (undone f) = not-both f ok
 
 pub ran-refused : (e : Ended) → Ran e → e .ok ≡ true → e .refusal ≢ 0 → take (e .length) (e .text) ≡ refusedText (e .refusal)

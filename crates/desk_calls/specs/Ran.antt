@@ -11,6 +11,7 @@ use Rattle.envelope_file.specs.Derive.{derivedOf}
 use Rattle.envelope_file.specs.Labels.{envelopeLabels}
 use Rattle.label_lines.specs.Labels.{labelsText}
 use Rattle.lines.specs.Lines.{hexLine}
+use Rattle.open_call.specs.Opened.{OpenEnds}
 use Rattle.outcomes.specs.Status.{Said, Ends}
 use Rattle.outcomes.specs.declared.Ended.{Ended}
 use Rattle.verbs.specs.Tables.{wordsOf}
@@ -28,6 +29,7 @@ LabelsEnds e = (envelope : List ℕ)
 pub data Performed (verb : ℕ) (e : Ended) : Type 0 where
   derived : verb ≡ 0 → DeriveEnds e → Performed verb e
   listed : verb ≡ 1 → LabelsEnds e → Performed verb e
+  opened : verb ≡ 2 → OpenEnds e → Performed verb e
   undone : e .ok ≡ false → Performed verb e
 
 -- How a call ended: as the verb that some word says, with the help or the version, or as one that failed.

@@ -18,6 +18,7 @@ fn perform(program: &[u8], verb: usize) -> Ended
     match verb {
         0 => envelopes::derive(program),
         1 => envelopes::labels(program),
+        2 => open_call::open(program),
         _ => outcomes::failed(),
     }
 }

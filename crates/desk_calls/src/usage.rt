@@ -9,7 +9,7 @@ pub(crate) fn answer(program: &[u8]) -> Ended
 {
     answers::answer(
         program,
-        b"usage:\n  yendlowa-desk derive ENVELOPE NAME\n      print the key of the label NAME\n  yendlowa-desk labels ENVELOPE\n      print the account and the labels that the envelope opens\n  yendlowa-desk --help\n  yendlowa-desk --version\nENVELOPE may be '-', standard input. Write ./-NAME for a file called -NAME.\nExit status: 0 an answer, 1 refused, 2 a wrong call or a file that could not be read or written.\n",
+        b"usage:\n  yendlowa-desk derive ENVELOPE NAME\n      print the key of the label NAME\n  yendlowa-desk labels ENVELOPE\n      print the account and the labels that the envelope opens\n  yendlowa-desk open ENVELOPE SEALED OUT\n      write the text of the sealed file SEALED to the new file OUT\n  yendlowa-desk --help\n  yendlowa-desk --version\nENVELOPE or SEALED may be '-', standard input. Write ./-NAME for a file called -NAME.\nExit status: 0 an answer, 1 refused, 2 a wrong call or a file that could not be read or written.\n",
     )
 }
 

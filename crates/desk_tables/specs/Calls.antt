@@ -7,4 +7,5 @@ unfoldable pub verbs : List Verb
 verbs =
     ("derive", 4, 4)
     ∷ ("labels", 3, 3)
+    ∷ ("open", 5, 5)
     ∷ []

@@ -9,7 +9,7 @@ ghost use Rattle.desk_tables.specs.Calls.{verbs};
 const WORDS: [[u8; 16]; 16] = [
     *b"derive          ",
     *b"labels          ",
-    *b"                ",
+    *b"open            ",
     *b"                ",
     *b"                ",
     *b"                ",
@@ -35,21 +35,21 @@ pub fn words() -> [[u8; 16]; 16]
 pub fn least() -> [u8; 16]
     ensures { λ r. ⌜ r ≡ leastOf verbs ⌝ }
 {
-    [4, 3, 0, 0, 0, 0, 0, 0, 0, 0, 0, 0, 0, 0, 0, 0]
+    [4, 3, 5, 0, 0, 0, 0, 0, 0, 0, 0, 0, 0, 0, 0, 0]
 }
 
 // The greatest number of arguments of each.
 pub fn most() -> [u8; 16]
     ensures { λ r. ⌜ r ≡ mostOf verbs ⌝ }
 {
-    [4, 3, 0, 0, 0, 0, 0, 0, 0, 0, 0, 0, 0, 0, 0, 0]
+    [4, 3, 5, 0, 0, 0, 0, 0, 0, 0, 0, 0, 0, 0, 0, 0]
 }
 
 // How each is called.
 const SYNOPSES: [[u8; 80]; 16] = [
     *b"yendlowa-desk derive ENVELOPE NAME                                              ",
     *b"yendlowa-desk labels ENVELOPE                                                   ",
-    *b"                                                                                ",
+    *b"yendlowa-desk open ENVELOPE SEALED OUT                                          ",
     *b"                                                                                ",
     *b"                                                                                ",
     *b"                                                                                ",

@@ -123,13 +123,18 @@ pub fn read_argument(program: &[u8], i: usize, buffer: &mut [u8]) -> Read
     read_file(program, &path[..length], buffer)
 }
 
+// Tells that two arguments name standard input.
+pub fn tell_twice(program: &[u8]) {
+    messages::tell_line(
+        program,
+        b"'-' is given twice, and standard input can be read only once",
+    );
+}
+
 // Whether both arguments name standard input, which is then told.
 fn twice_input(program: &[u8], i: usize, j: usize) -> bool {
     if arguments::is_argument(i, b"-") && arguments::is_argument(j, b"-") {
-        messages::tell_line(
-            program,
-            b"'-' is given twice, and standard input can be read only once",
-        );
+        tell_twice(program);
         return true;
     }
     false

@@ -67,7 +67,7 @@ and-assoc : (a b c : Bool) → a && (b && c) ≡ (a && b) && c
 and-assoc true b c = refl
 and-assoc false b c = refl
 
-and-end : (a : Bool) → a && true ≡ a
+pub and-end : (a : Bool) → a && true ≡ a
 and-end true = refl
 and-end false = refl
 

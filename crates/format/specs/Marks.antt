@@ -1,4 +1,4 @@
--- The six marks of 01, "Every record opens with a two-byte ASCII mark", as ASCII bytes.
+-- The marks of 01, "Every record opens with a two-byte ASCII mark", and of 02, as ASCII bytes.
 use Prim.Native.Nat.{ℕ}
 use mathlib.Core.List.{List, [], _∷_}
 
@@ -19,3 +19,7 @@ KS = 75 ∷ 83 ∷ []
 
 abbrev pub KD : List ℕ
 KD = 75 ∷ 68 ∷ []
+
+-- 02, Ask 2
+abbrev pub SM : List ℕ
+SM = 83 ∷ 77 ∷ []

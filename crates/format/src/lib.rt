@@ -18,6 +18,8 @@ pub const KS: [u8; 2] = *b"KS";
 
 pub const KD: [u8; 2] = *b"KD";
 
+pub const SM: [u8; 2] = *b"SM";
+
 // What a byte of a name can be.
 pub enum Class {
     Letter,

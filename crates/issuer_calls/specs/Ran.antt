@@ -17,6 +17,7 @@ use Rattle.plan_answers.specs.Weighing.{weighOf}
 use Rattle.plan_texts.specs.Drawing.{dotText}
 use Rattle.plan_texts.specs.Listing.{planText}
 use Rattle.policy_file.specs.Whole.{policyRefusal}
+use Rattle.seal_call.specs.Sealed.{SealEnds}
 use Rattle.verbs.specs.Tables.{wordsOf}
 use Rattle.verbs.specs.Verbs.{placeOf}
 use Rattle.weigh_lines.specs.Weighed.{weighedText}
@@ -50,6 +51,7 @@ pub data Performed (verb : ℕ) (e : Ended) : Type 0 where
   keyed : verb ≡ 3 → (option : Bool) → KeyEnds option e → Performed verb e
   issued : verb ≡ 4 → (option : Bool) (account : ℕ) → IssueEnds option account e → Performed verb e
   drew : verb ≡ 5 → RootEnds e → Performed verb e
+  sealed : verb ≡ 6 → (option : Bool) → SealEnds option e → Performed verb e
   undone : e .ok ≡ false → Performed verb e
 
 -- How a call ended: as the verb that some word says, with the help or the version, or as one that failed.

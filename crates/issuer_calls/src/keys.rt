@@ -30,24 +30,12 @@ pub(crate) fn key(program: &[u8], option: bool) -> Ended
     reports::of_key(program, &policy[..policy_length], option, ended)
 }
 
-// Whether the argument that is to name a new file is `-`, which is then told.
-fn is_no_file(program: &[u8], i: usize) -> bool {
-    if arguments::is_argument(i, b"-") {
-        messages::tell_line(
-            program,
-            b"OUT '-' is not a file name; secrets are written to a new file only",
-        );
-        return true;
-    }
-    false
-}
-
 // `issue`, for the account number that was read
 fn issue_to(program: &[u8], option: bool, account: u32) -> Ended
     ensures { λ r. ⌜ IssueEnds option account r ⌝ }
 {
     let at = reports::first_argument(option);
-    if is_no_file(program, at + 4) {
+    if new_file::is_no_file(program, at + 4) {
         return outcomes::failed();
     }
     // As for `key` (`buffer-front`, `buffer-root-front`, crate issuer_answers).
@@ -102,7 +90,7 @@ pub(crate) fn issue(program: &[u8], option: bool) -> Ended
 pub(crate) fn root(program: &[u8]) -> Ended
     ensures { λ r. ⌜ RootEnds r ⌝ }
 {
-    if is_no_file(program, 2) {
+    if new_file::is_no_file(program, 2) {
         return outcomes::failed();
     }
     let mut out = io::buffer();

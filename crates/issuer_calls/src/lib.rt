@@ -16,7 +16,7 @@ ghost use Rattle.issuer_calls.specs.Ran.{Performed, Ran};
 // Whether a verb has the option `--fingerprint`, and it is given.
 fn has_option(word: &[u8]) -> bool {
     let verb = verbs::find(issuer_tables::words(), word);
-    (verb == 3 || verb == 4) && arguments::is_argument(2, b"--fingerprint")
+    (verb == 3 || verb == 4 || verb == 6) && arguments::is_argument(2, b"--fingerprint")
 }
 
 // Does what a verb says; the number of its arguments is right.
@@ -30,6 +30,7 @@ fn perform(program: &[u8], verb: usize, count: usize, option: bool) -> Ended
         3 => keys::key(program, option),
         4 => keys::issue(program, option),
         5 => keys::root(program),
+        6 => seal_call::seal(program, reports::first_argument(option), option),
         _ => outcomes::failed(),
     }
 }

@@ -1,4 +1,4 @@
--- Keys, fingerprints and the length of an envelope as they are printed, in ASCII: "one space parts the fields, and every line ends in one line feed".
+-- Keys, fingerprints and the lengths of new files as they are printed, in ASCII: "one space parts the fields, and every line ends in one line feed".
 use Prim.Native.Nat.{ℕ}
 use mathlib.Core.Bool.{Bool, cond}
 use mathlib.Core.List.{List, [], _++_}
@@ -25,3 +25,10 @@ keyText key print option = hexLine key ++ optionLine print option
 -- `issue`: the length of the envelope; none has 65,535 bytes
 unfoldable pub issuedText : (size : ℕ) (print : List ℕ) (option : Bool) → List ℕ
 issuedText size print option = worded (bytesOf "ISSUED") (capped size) ++ optionLine print option
+
+-- `seal`: the length of the sealed file; and `open`: that of the text; none has 65,535 bytes
+unfoldable pub sealedText : (size : ℕ) (print : List ℕ) (option : Bool) → List ℕ
+sealedText size print option = worded (bytesOf "SEALED") (capped size) ++ optionLine print option
+
+unfoldable pub openedText : (size : ℕ) → List ℕ
+openedText size = worded (bytesOf "OPENED") (capped size)

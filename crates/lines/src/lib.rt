@@ -1,8 +1,8 @@
-// Keys, fingerprints and the length of an envelope as the verbs print them, as bytes in a buffer.
+// Keys, fingerprints and the lengths of new files as the verbs print them, as bytes in a buffer.
 ghost use Prim.Native.Nat.{_+_, _*_, _≤_, _<_};
 ghost use lib.ListN.{length};
 ghost use Rattle.buffers.specs.Put.{Put};
-ghost use Rattle.lines.specs.Lines.{hexLine, fingerprintLine, optionLine, keyText, issuedText};
+ghost use Rattle.lines.specs.Lines.{hexLine, fingerprintLine, optionLine, keyText, issuedText, sealedText, openedText};
 
 // Writes bytes as a line of hexadecimal digits.
 pub fn put_hex(out: &mut [u8], at: usize, bytes: &[u8]) -> usize
@@ -52,4 +52,21 @@ pub fn put_issued(out: &mut [u8], size: usize, print: [u8; 8], option: bool) -> 
 {
     let end = decimals::put_worded(out, 0, b"ISSUED", decimals::capped(size));
     put_option(out, end, print, option)
+}
+
+// Writes what `seal` prints.
+pub fn put_sealed(out: &mut [u8], size: usize, print: [u8; 8], option: bool) -> usize
+    requires { ⌜ 128 ≤ length (now out) ⌝ }
+    ensures { λ r. ⌜ Put (now (out .entry)) (now (out .exit)) 0 (sealedText size print option) r ⌝ }
+{
+    let end = decimals::put_worded(out, 0, b"SEALED", decimals::capped(size));
+    put_option(out, end, print, option)
+}
+
+// Writes what `open` prints.
+pub fn put_opened(out: &mut [u8], size: usize) -> usize
+    requires { ⌜ 128 ≤ length (now out) ⌝ }
+    ensures { λ r. ⌜ Put (now (out .entry)) (now (out .exit)) 0 (openedText size) r ⌝ }
+{
+    decimals::put_worded(out, 0, b"OPENED", decimals::capped(size))
 }

@@ -101,3 +101,15 @@ pub fn remove(program: &[u8], path: &[u8]) {
         messages::file_failed(program, path);
     }
 }
+
+// Whether the argument that is to name a new file is `-`, which is then told.
+pub fn is_no_file(program: &[u8], i: usize) -> bool {
+    if arguments::is_argument(i, b"-") {
+        messages::tell_line(
+            program,
+            b"OUT '-' is not a file name; what is written goes to a new file only",
+        );
+        return true;
+    }
+    false
+}

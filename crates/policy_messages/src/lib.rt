@@ -47,7 +47,7 @@ pub fn tell_tree(program: &[u8], i: usize, j: usize, policy: &[u8], tree: &[u8],
     }
 }
 
-// Tells what `key` or `issue` refuses: the policy that argument i names, or else argument j, which the number speaks of.
+// Tells what `key`, `issue` or `seal` refuses: the policy that argument i names, or else argument j, which the number speaks of.
 pub fn tell_asked(program: &[u8], i: usize, j: usize, policy: &[u8], number: u8) {
     if policy::read_policy(policy).refusal != 0 {
         tell_policy(program, i, policy, number);

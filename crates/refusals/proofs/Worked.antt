@@ -9,6 +9,6 @@ pub words-account : wordsLine 14 ≡ line "the account number is 0 or above the 
 unfolding wordsLine refusalWords refusalTexts bytesOf line
 words-account = refl
 
-pub words-22 : wordsLine 22 ≡ line "no such refusal"
+pub words-24 : wordsLine 24 ≡ line "no such refusal"
 unfolding wordsLine refusalWords refusalTexts bytesOf line
-words-22 = refl
+words-24 = refl

@@ -1,4 +1,4 @@
--- The numbers of refusals in words (01, "Refusals by the place of checking"), for programs and for C.
+-- The numbers of refusals in words (01, "Refusals by the place of checking"; 02), for programs and for C.
 use Prim.Native.Nat.{ℕ, _-_, _≤_, _<_}
 use Prim.Native.String.{String}
 use mathlib.Core.List.{List, [], _∷_, _++_, map}
@@ -9,7 +9,7 @@ use Rattle.decimals.specs.Worded.{newline}
 use Rattle.lists.specs.Buffer.{zeroFilled}
 use Rattle.refusals.specs.Line.{line}
 
--- what 0 to 21 mean; 0 is not a refusal
+-- what 0 to 23 mean; 0 is not a refusal
 unfoldable pub refusalTexts : List String
 refusalTexts =
     "accepted"
@@ -34,6 +34,8 @@ refusalTexts =
     ∷ "the place in the KD record is not less than its own"
     ∷ "the envelope has no label with this name"
     ∷ "a key or message has more than 65,536 bytes"
+    ∷ "not a sealed file, a text above 32,768 bytes, or a nonce that is not 12 bytes"
+    ∷ "the tag differs: the file was altered, or sealed under another key"
     ∷ []
 
 -- what a number means
@@ -44,9 +46,9 @@ refusalWords number = bytesOf (getD refusalTexts number "no such refusal")
 unfoldable pub wordsLine : (number : ℕ) → List ℕ
 wordsLine number = refusalWords number ++ newline
 
--- the lines of 0 to 21, then that of any other number
+-- the lines of 0 to 23, then that of any other number
 unfoldable pub tableLines : List (List ℕ)
-tableLines = map line refusalTexts ++ (wordsLine 22 ∷ [])
+tableLines = map line refusalTexts ++ (wordsLine 24 ∷ [])
 
 -- a text of 80 bytes for callers in C: the words, and zeros after them
 unfoldable pub textOf : (number : ℕ) → List ℕ

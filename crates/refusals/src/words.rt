@@ -1,11 +1,11 @@
-// The numbers of refusals in words (01, "Refusals by the place of checking").
+// The numbers of refusals in words (01, "Refusals by the place of checking"; 02).
 ghost use mathlib.Core.Path.{_≡_};
 ghost use mathlib.Core.List.{map};
 ghost use Rattle.refusals.specs.Line.{firstLine};
 ghost use Rattle.refusals.specs.Refusals.{tableLines, wordsLine};
 
-// What 0 to 21 mean, then what any other number means: a line each, and spaces after it.
-const TABLE: [[u8; 80]; 23] = [
+// What 0 to 23 mean, then what any other number means: a line each, and spaces after it.
+const TABLE: [[u8; 80]; 25] = [
     *b"accepted\n                                                                       ",
     *b"the file is empty\n                                                              ",
     *b"fewer than 2 bytes are left, or the mark does not belong in this file\n          ",
@@ -28,10 +28,12 @@ const TABLE: [[u8; 80]; 23] = [
     *b"the place in the KD record is not less than its own\n                            ",
     *b"the envelope has no label with this name\n                                       ",
     *b"a key or message has more than 65,536 bytes\n                                    ",
+    *b"not a sealed file, a text above 32,768 bytes, or a nonce that is not 12 bytes\n  ",
+    *b"the tag differs: the file was altered, or sealed under another key\n             ",
     *b"no such refusal\n                                                                ",
 ];
 
-fn table() -> [[u8; 80]; 23]
+fn table() -> [[u8; 80]; 25]
     ensures { λ r. ⌜ map firstLine r ≡ tableLines ⌝ }
 {
     TABLE
@@ -42,9 +44,9 @@ pub(crate) fn meaning(number: u8) -> [u8; 80]
     ensures { λ r. ⌜ firstLine r ≡ wordsLine number ⌝ }
 {
     let words = table();
-    if number < 22 {
+    if number < 24 {
         words[number as usize]
     } else {
-        words[22]
+        words[24]
     }
 }

@@ -1,9 +1,11 @@
-// Runs the vectors of FIPS 180-4 and RFC 4231 and the worked examples of documents 01 and 02 that are run and not proved, one
+// Runs the vectors of FIPS 180-4, RFC 4231 and RFC 8439 and the worked examples of documents 01 and 02 that are run and not proved, one
 // line a case. The cases stand on standard input: how many there are, and for each its name, the operation, a number and four files;
 // what an operation does not take is 0 or empty. tests/vectors.py makes the files stdin and stdout.
+mod ciphers;
 mod envelopes;
 mod hashes;
 mod input;
+mod modules;
 mod policies;
 mod print;
 
@@ -17,7 +19,14 @@ fn answer(operation: u16, number: u16, a: &[u8], b: &[u8], c: &[u8], buffer: &mu
         4 => policies::tree(a, b),
         5 => envelopes::key(a, b, c),
         6 => envelopes::envelope(a, b, number as u32, c, buffer),
-        _ => envelopes::derived(a, b),
+        7 => envelopes::derived(a, b),
+        8 => ciphers::block(a, number, b, 64),
+        9 => ciphers::block(a, 0, b, number as usize),
+        10 => ciphers::encrypted(a, number, b, buffer),
+        11 => ciphers::tag(a, b),
+        12 => ciphers::sealed(a, b, c, buffer),
+        13 => modules::sealed(a, b, c, buffer),
+        _ => modules::opened(a, b, buffer),
     }
 }
 

@@ -1,6 +1,6 @@
 -- `issuer_calls::perform` meets its contract: it ends as the verb does.
 use borrow.Author.Needs.{needs}
-use Rattle.issuer_calls.specs.Ran.{planned, drawn, weighed, keyed, issued, drew, undone}
+use Rattle.issuer_calls.specs.Ran.{planned, drawn, weighed, keyed, issued, drew, sealed, undone}
 use Rattle.issuer_calls.proofs.perform.Statement.{statement}
 use Rattle.issuer_calls.proofs.perform.Tie as tie
 
@@ -21,6 +21,12 @@ issue-requires c κs = search needs
 
 root-requires : tie.Need-root-requires
 root-requires c κs = search needs
+
+first-argument-requires : tie.Need-first-argument-requires
+first-argument-requires c κs = search needs
+
+seal-requires : tie.Need-seal-requires
+seal-requires c κs = search needs
 
 failed-requires : tie.Need-failed-requires
 failed-requires c κs = search needs
@@ -44,7 +50,10 @@ returns-6 : tie.Need-returns-6
 returns-6 c = drew (c .before .match .keys6) (c .root .ensures)
 
 returns-7 : tie.Need-returns-7
-returns-7 c = undone (c .failed .ensures)
+returns-7 c = sealed (c .before .before .match .keys7) _ (c .seal .ensures)
+
+returns-8 : tie.Need-returns-8
+returns-8 c = undone (c .failed .ensures)
 
 pub perform-spec : {M : Type 1} → statement M
 perform-spec =
@@ -56,6 +65,8 @@ perform-spec =
     key-requires
     issue-requires
     root-requires
+    first-argument-requires
+    seal-requires
     failed-requires
     returns
     returns-2
@@ -63,4 +74,5 @@ perform-spec =
     returns-4
     returns-5
     returns-6
-    returns-7)
+    returns-7
+    returns-8)

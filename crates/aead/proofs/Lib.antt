@@ -1,0 +1,4 @@
+pub mod Data
+pub mod Lengths
+pub mod Laws
+pub mod Vectors

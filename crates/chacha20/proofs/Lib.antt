@@ -1,0 +1,4 @@
+pub mod Xored
+pub mod Stream
+pub mod Encrypted
+pub mod Vectors

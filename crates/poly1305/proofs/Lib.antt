@@ -1,0 +1,5 @@
+pub mod Numbers
+pub mod Masks
+pub mod Blocks
+pub mod Tags
+pub mod Vectors

@@ -1,0 +1,4 @@
+pub mod Answers
+pub mod Sealing
+pub mod Demand1
+pub mod Front

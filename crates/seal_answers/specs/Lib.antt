@@ -1,0 +1,2 @@
+pub mod Seal
+pub mod Rows

@@ -1,0 +1,2 @@
+pub mod Sealed
+pub mod Rows

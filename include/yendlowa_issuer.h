@@ -1,6 +1,6 @@
 /*
- * The issuer's side of Yendlowa: policies read, planned and weighed, the issuer's keys, envelopes written, and module files
- * sealed. Link with -lyendlowa-issuer. The libraries are for x86-64 Linux.
+ * The issuer's side of Yendlowa: policies read, planned and weighed, what one more account costs, the issuer's keys, envelopes
+ * written, and module files sealed. Link with -lyendlowa-issuer. The libraries are for x86-64 Linux.
  *
  * No function allocates, keeps anything between calls or does input or output, so any number of threads may call them at
  * once. Every function may be called with any bytes. A byte array is passed as a pointer and a length; the pointer may
@@ -37,6 +37,7 @@ extern "C" {
 #define YENDLOWA_PAIRS 512         /* the most over-pairs that a policy can have */
 #define YENDLOWA_TEXT_ROOM 4096    /* no plan's text has more bytes */
 #define YENDLOWA_DRAWING_ROOM 8192 /* no plan's drawing has more bytes */
+#define YENDLOWA_GROWTH_ROOM 1024  /* yendlowa_growth_text never writes more bytes */
 
 /*
  * How much of a file decides: more bytes than this do not change an answer, so it is enough to read this many from a file.
@@ -154,6 +155,38 @@ yendlowa_written yendlowa_plan_text(const uint8_t *policy, size_t policy_length,
  * Refuses  as `yendlowa_read_policy` does; then 16.
  */
 yendlowa_written yendlowa_plan_dot(const uint8_t *policy, size_t policy_length, uint8_t *out, size_t out_length);
+
+/* ---- what one more account costs ---- */
+
+typedef struct yendlowa_grown {
+    uint8_t refusal;
+    uint8_t zeros[7];                  /* always 0 */
+    size_t labels;                     /* 1 to 64 */
+    uint8_t costs[YENDLOWA_LABELS];    /* what one more account at the label adds to the plan's total; zeros after the last label */
+    uint8_t ceilings[YENDLOWA_LABELS]; /* a ceiling for that: the number of labels at or below; zeros after the last label */
+} yendlowa_grown;
+
+/*
+ * What one more account costs at each label: the total of the plan with one account more at that label alone, less the total of
+ * the plan as it is. The ceiling of a label with room for one more follows from labels and pairs alone: whatever the accounts
+ * are, one more there never costs more.
+ *
+ * Takes    a policy file.
+ * Gives    cost and ceiling of each label: the cost is at least 1 and at most the ceiling. Both are 0 for a label that has 65,535
+ *          accounts, since it can have no more.
+ * Refuses  as `yendlowa_read_policy` does.
+ */
+yendlowa_grown yendlowa_growth(const uint8_t *policy, size_t policy_length);
+
+/*
+ * The same as text, as `yendlowa growth` prints it: a line for each label, with its name, cost and ceiling; - stands for each of the
+ * two if the label has 65,535 accounts. No null byte follows the text.
+ *
+ * Takes    a policy file, and a buffer; YENDLOWA_GROWTH_ROOM bytes always suffice.
+ * Gives    the length of the text, which starts at the buffer's start.
+ * Refuses  as `yendlowa_read_policy` does; then 16.
+ */
+yendlowa_written yendlowa_growth_text(const uint8_t *policy, size_t policy_length, uint8_t *out, size_t out_length);
 
 /* ---- keys and envelopes ---- */
 

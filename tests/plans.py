@@ -1,9 +1,10 @@
 #!/usr/bin/env python3
-"""Prints policy files, and the text that the plan of each has to have, from document 01 and Ask 1 of document 02 alone.
-A program's stored input and output come from here.
+"""Prints policy files, the text that the plan of each has to have and that of what one more account costs, from document 01
+and Asks 1 and 3 of document 02 alone. A program's stored input and output come from here.
 
 python3 tests/plans.py policy CASE    the bytes of the policy file
-python3 tests/plans.py text CASE      the bytes of the text
+python3 tests/plans.py text CASE      the bytes of the plan's text
+python3 tests/plans.py growth CASE    the bytes of the text of what one more account costs
 
 CASE is E (document 01's example), refused (E without its last two pairs), full (64 labels, 512 pairs) or the path of a
 policy file.
@@ -103,15 +104,19 @@ def read_pair(labels, pairs, upper, lower):
     pairs.append((upper, lower))
 
 
-def plan_lines(labels, pairs):
-    """The lines of an accepted policy's plan: at_or_above[m] is the set of the labels that m is at or below."""
+def ordered(labels, pairs):
+    """For each label the set of the labels that it is at or below."""
     at_or_above = [{m} for m in range(len(labels))]
     while True:
         before = [len(uppers) for uppers in at_or_above]
         for upper, lower in pairs:
             at_or_above[lower] |= at_or_above[upper]
         if before == [len(uppers) for uppers in at_or_above]:
-            break
+            return at_or_above
+
+
+def plan(labels, at_or_above):
+    """The parent, weight and keys of each label in an accepted policy's plan, and the total."""
 
     def weight(parent, label):
         return sum(labels[l][1] for l in at_or_above[label] - at_or_above[parent])
@@ -121,32 +126,52 @@ def plan_lines(labels, pairs):
 
     parents = [None] + [parent_of(label) for label in range(1, len(labels))]
     weights = [labels[0][1]] + [weight(parents[label], label) for label in range(1, len(labels))]
-    total = 0
-    for label, (name, count) in enumerate(labels):
+    sizes = []
+    for label in range(len(labels)):
         below = {m for m in range(len(labels)) if label in at_or_above[m]}
-        size = len([m for m in below if m == 0 or parents[m] not in below])
-        total += count * size
-        parent = "-" if label == 0 else labels[parents[label]][0]
-        yield f"{name} {parent} {weights[label]} {size} {count}\n"
+        sizes.append(len([m for m in below if m == 0 or parents[m] not in below]))
+    total = sum(count * size for (_, count), size in zip(labels, sizes))
     assert total == sum(weights)
+    return list(zip(parents, weights, sizes)), total
+
+
+def plan_lines(labels, pairs):
+    rows, total = plan(labels, ordered(labels, pairs))
+    for (name, count), (parent, weight, size) in zip(labels, rows):
+        yield f"{name} {'-' if parent is None else labels[parent][0]} {weight} {size} {count}\n"
     yield f"TOTAL {total}\n"
 
 
-def text(file):
+def growth_lines(labels, pairs):
+    """What one more account costs at each label, planned anew, and the number of labels at or below the label."""
+    at_or_above = ordered(labels, pairs)
+    for label, (name, count) in enumerate(labels):
+        if count == 65_535:
+            yield f"{name} - -\n"
+            continue
+        more = labels[:label] + [(name, count + 1)] + labels[label + 1 :]
+        cost = plan(more, at_or_above)[1] - plan(labels, at_or_above)[1]
+        ceiling = len([m for m in range(len(labels)) if label in at_or_above[m]])
+        assert 1 <= cost <= ceiling
+        yield f"{name} {cost} {ceiling}\n"
+
+
+def text(file, lines):
     try:
-        return "".join(plan_lines(*read(file))).encode()
+        return "".join(lines(*read(file))).encode()
     except Refused as refused:
         return f"REFUSED {refused}\n".encode()
 
 
 def main():
-    if len(sys.argv) != 3 or sys.argv[1] not in ("policy", "text"):
+    if len(sys.argv) != 3 or sys.argv[1] not in ("policy", "text", "growth"):
         raise SystemExit(__doc__.strip())
-    file = CASES[sys.argv[2]]() if sys.argv[2] in CASES else pathlib.Path(sys.argv[2]).read_bytes()
-    made = text(file)
-    if GIVEN.get(sys.argv[2], made) != made:
-        raise SystemExit(f"{sys.argv[2]}: {made} is not what document 01 gives")
-    sys.stdout.buffer.write(file if sys.argv[1] == "policy" else made)
+    what, case = sys.argv[1:]
+    file = CASES[case]() if case in CASES else pathlib.Path(case).read_bytes()
+    made = {"policy": file, "text": text(file, plan_lines), "growth": text(file, growth_lines)}
+    if GIVEN.get(case, made["text"]) != made["text"]:
+        raise SystemExit(f"{case}: {made['text']} is not what document 01 gives")
+    sys.stdout.buffer.write(made[what])
 
 
 if __name__ == "__main__":

@@ -109,6 +109,8 @@ fn policy_rows() {
     row("weigh, the same", two(|| ours::weigh(policy, tree), || plan::weigh(policy, tree)));
     written("plan_text, the same", policy, ours::plan_text, plan::plan_text);
     written("plan_dot, the same", policy, ours::plan_dot, plan::plan_dot);
+    row("growth, the same", two(|| ours::growth(policy), || plan::growth(policy)));
+    written("growth_text, the same", policy, ours::growth_text, plan::growth_text);
 }
 
 type Writer = fn(&[u8], &mut [u8]) -> library::Written;

@@ -38,6 +38,14 @@ pub fn plan_dot(policy: &[u8], out: &mut [u8]) -> Written {
     unsafe { yendlowa_plan_dot(policy.as_ptr(), policy.len(), out.as_mut_ptr(), out.len()) }
 }
 
+pub fn growth(policy: &[u8]) -> Growth {
+    unsafe { yendlowa_growth(policy.as_ptr(), policy.len()) }
+}
+
+pub fn growth_text(policy: &[u8], out: &mut [u8]) -> Written {
+    unsafe { yendlowa_growth_text(policy.as_ptr(), policy.len(), out.as_mut_ptr(), out.len()) }
+}
+
 pub fn issuer_key(policy: &[u8], name: &[u8], root: &[u8]) -> IssuerKey {
     let (policy, length) = (policy.as_ptr(), policy.len());
     unsafe { yendlowa_issuer_key(policy, length, name.as_ptr(), name.len(), root.as_ptr(), root.len()) }

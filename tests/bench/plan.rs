@@ -1,10 +1,11 @@
-//! Policies, the plan, its text and drawing, and the weighing of a tree in plain Rust. The policy is read and
-//! checked as the comparison's second implementation does it, and the order built as a table of 64 rows of 64
-//! entries closed under chains. The weight of every label strictly above each label is summed from the two rows,
-//! and the least taken. There are no bit sets, and the reader's lists and a text alone are allocated; the loops
-//! over rows have no branch inside, so that they compile to vector instructions.
+//! Policies, the plan, its text and drawing, the weighing of a tree, and what one more account costs in plain
+//! Rust. The policy is read and checked as the comparison's second implementation does it, and the order built as a
+//! table of 64 rows of 64 entries closed under chains. The weight of every label strictly above each label is summed
+//! from the two rows, and the least taken. For what one more account costs that is done anew for each label. There
+//! are no bit sets, and the reader's lists and a text alone are allocated; the loops over rows have no branch
+//! inside, so that they compile to vector instructions.
 
-use crate::library::{self, Pair, Plan, Weighed, Written};
+use crate::library::{self, Growth, Pair, Plan, Weighed, Written};
 use crate::policy;
 use std::fmt::Write;
 
@@ -116,6 +117,11 @@ fn total(policy: &Policy, sizes: &[u8; 64]) -> u32 {
     policy.counts.iter().zip(sizes).map(|(count, size)| count * *size as u32).sum()
 }
 
+/// The total of the plan, by the weights of the parents.
+fn least_total(policy: &Policy, rows: &Rows) -> u32 {
+    policy.counts[0] + (1..policy.labels).map(|label| best_parent(policy, rows, label).1).sum::<u32>()
+}
+
 const NO_PLAN: Plan =
     Plan { refusal: 0, zeros: [0; 3], total: 0, labels: 0, parents: [0; 64], weights: [0; 64], sizes: [0; 64] };
 
@@ -135,12 +141,35 @@ fn planned(policy: &Policy) -> Plan {
     plan
 }
 
+const NO_GROWTH: Growth = Growth { refusal: 0, zeros: [0; 7], labels: 0, costs: [0; 64], ceilings: [0; 64] };
+
+pub fn growth(file: &[u8]) -> Growth {
+    read(file).map_or_else(|refusal| Growth { refusal, ..NO_GROWTH }, |mut policy| grown(&mut policy))
+}
+
+/// Each label's accounts are raised by one, the policy is planned, and the accounts are put back.
+fn grown(policy: &mut Policy) -> Growth {
+    let mut growth = Growth { labels: policy.labels, ..NO_GROWTH };
+    let rows = order(policy);
+    let today = least_total(policy, &rows);
+    for label in 0..policy.labels {
+        if policy.counts[label] < 65_535 {
+            policy.counts[label] += 1;
+            growth.costs[label] = (least_total(policy, &rows) - today) as u8;
+            growth.ceilings[label] = rows.iter().map(|row| row[label] as u8).sum();
+            policy.counts[label] -= 1;
+        }
+    }
+    growth
+}
+
 /// The name of a label without padding.
 fn name(policy: &Policy, label: usize) -> &str {
     std::str::from_utf8(&policy.names[label]).unwrap().trim_ascii_end()
 }
 
-fn write_text(text: &mut String, policy: &Policy, plan: &Plan) -> std::fmt::Result {
+fn write_text(text: &mut String, policy: &mut Policy) -> std::fmt::Result {
+    let plan = planned(policy);
     for m in 0..policy.labels {
         let parent = if m == 0 { "-" } else { name(policy, plan.parents[m] as usize) };
         let (weight, size, accounts) = (plan.weights[m], plan.sizes[m], policy.counts[m]);
@@ -149,7 +178,8 @@ fn write_text(text: &mut String, policy: &Policy, plan: &Plan) -> std::fmt::Resu
     writeln!(text, "TOTAL {}", plan.total)
 }
 
-fn write_dot(text: &mut String, policy: &Policy, plan: &Plan) -> std::fmt::Result {
+fn write_dot(text: &mut String, policy: &mut Policy) -> std::fmt::Result {
+    let plan = planned(policy);
     text.push_str("digraph plan {\n  node [shape=box];\n");
     for m in 0..policy.labels {
         let (name_of_m, weight, size) = (name(policy, m), plan.weights[m], plan.sizes[m]);
@@ -162,19 +192,30 @@ fn write_dot(text: &mut String, policy: &Policy, plan: &Plan) -> std::fmt::Resul
     writeln!(text, "  label=\"TOTAL {}\";\n}}", plan.total)
 }
 
-/// Writes a text of the plan into the buffer, if the policy is not refused and there is room for it.
+fn write_growth(text: &mut String, policy: &mut Policy) -> std::fmt::Result {
+    let growth = grown(policy);
+    for m in 0..policy.labels {
+        match growth.costs[m] {
+            0 => writeln!(text, "{} - -", name(policy, m))?,
+            cost => writeln!(text, "{} {cost} {}", name(policy, m), growth.ceilings[m])?,
+        }
+    }
+    Ok(())
+}
+
+/// Writes a text into the buffer, if the policy is not refused and there is room for it.
 fn written(
     file: &[u8],
     out: &mut [u8],
-    write: fn(&mut String, &Policy, &Plan) -> std::fmt::Result,
+    write: fn(&mut String, &mut Policy) -> std::fmt::Result,
 ) -> Written {
     let refused = |refusal| Written { refusal, zeros: [0; 7], length: 0 };
-    let policy = match read(file) {
+    let mut policy = match read(file) {
         Ok(policy) => policy,
         Err(refusal) => return refused(refusal),
     };
     let mut text = String::with_capacity(8192);
-    let done = write(&mut text, &policy, &planned(&policy));
+    let done = write(&mut text, &mut policy);
     match out.get_mut(..text.len()) {
         Some(start) if done.is_ok() => {
             start.copy_from_slice(text.as_bytes());
@@ -190,6 +231,10 @@ pub fn plan_text(file: &[u8], out: &mut [u8]) -> Written {
 
 pub fn plan_dot(file: &[u8], out: &mut [u8]) -> Written {
     written(file, out, write_dot)
+}
+
+pub fn growth_text(file: &[u8], out: &mut [u8]) -> Written {
+    written(file, out, write_growth)
 }
 
 fn read_tree(policy: &Policy, rows: &Rows, tree: &[u8]) -> Result<[u8; 64], u8> {
@@ -213,8 +258,7 @@ fn weighed(file: &[u8], tree: &[u8]) -> Result<(u32, bool), u8> {
     let rows = order(&policy);
     let parents = read_tree(&policy, &rows, tree)?;
     let total = total(&policy, &sizes(&policy, &rows, &parents));
-    let least: u32 = (1..policy.labels).map(|label| best_parent(&policy, &rows, label).1).sum();
-    Ok((total, total == policy.counts[0] + least))
+    Ok((total, total == least_total(&policy, &rows)))
 }
 
 pub fn weigh(file: &[u8], tree: &[u8]) -> Weighed {

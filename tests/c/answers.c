@@ -17,6 +17,7 @@ void *hmac_into(void *answer, at key, size_t key_length, at message, size_t leng
 void *read_into(void *answer, at policy, size_t length) __asm__("yendlowa_read_policy");
 void *order_into(void *answer, at policy, size_t length) __asm__("yendlowa_order");
 void *plan_into(void *answer, at policy, size_t length) __asm__("yendlowa_plan");
+void *growth_into(void *answer, at policy, size_t length) __asm__("yendlowa_growth");
 void *key_into(void *answer, at policy, size_t length, at name, size_t name_length, at root, size_t root_length)
     __asm__("yendlowa_issuer_key");
 void *derive_into(void *answer, at envelope, size_t length, at name, size_t name_length) __asm__("yendlowa_derive");
@@ -34,6 +35,7 @@ static void hmac(void *answer, const bytes *in)
 static void read_policy(void *answer, const bytes *in) { check(read_into(answer, in[0].at, in[0].length) == answer); }
 static void order(void *answer, const bytes *in) { check(order_into(answer, in[0].at, in[0].length) == answer); }
 static void plan(void *answer, const bytes *in) { check(plan_into(answer, in[0].at, in[0].length) == answer); }
+static void growth_of(void *answer, const bytes *in) { check(growth_into(answer, in[0].at, in[0].length) == answer); }
 static void weigh(void *answer, const bytes *in)
 {
     yendlowa_weighed w = yendlowa_weigh(in[0].at, in[0].length, in[1].at, in[1].length);
@@ -47,6 +49,11 @@ static void plan_text(void *answer, const bytes *in)
 static void plan_dot(void *answer, const bytes *in)
 {
     yendlowa_written w = yendlowa_plan_dot(in[0].at, in[0].length, out, sizeof out);
+    memcpy(answer, &w, sizeof w);
+}
+static void growth_text(void *answer, const bytes *in)
+{
+    yendlowa_written w = yendlowa_growth_text(in[0].at, in[0].length, out, sizeof out);
     memcpy(answer, &w, sizeof w);
 }
 static void pad_name(void *answer, const bytes *in)
@@ -109,6 +116,10 @@ static const struct {
     {plan_text, sizeof(yendlowa_written), YENDLOWA_NOT_ABOVE, {TEXT(E "OV\3\3")}},
     {plan_dot, sizeof(yendlowa_written), YENDLOWA_ACCEPTED, {TEXT(E)}},
     {plan_dot, sizeof(yendlowa_written), YENDLOWA_NOT_ABOVE, {TEXT(E "OV\3\3")}},
+    {growth_of, sizeof(yendlowa_grown), YENDLOWA_ACCEPTED, {TEXT(E)}},
+    {growth_of, sizeof(yendlowa_grown), YENDLOWA_NOT_ABOVE, {TEXT(E "OV\3\3")}},
+    {growth_text, sizeof(yendlowa_written), YENDLOWA_ACCEPTED, {TEXT(E)}},
+    {growth_text, sizeof(yendlowa_written), YENDLOWA_NOT_ABOVE, {TEXT(E "OV\3\3")}},
     {pad_name, sizeof(yendlowa_written), YENDLOWA_ACCEPTED, {TEXT("CONV32")}},
     {issue, sizeof(yendlowa_written), YENDLOWA_ACCEPTED, {TEXT(E), TEXT(NAME), TEXT(ROOT)}},
     {issue, sizeof(yendlowa_written), YENDLOWA_ROOT_LENGTH, {TEXT(E), TEXT(NAME), TEXT("")}},

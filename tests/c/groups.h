@@ -13,14 +13,16 @@
 #define NONCE "\0\0\0\0\0\0\0\0\0\0\0\1"
 #define SEALED "SMCONV32  " NONCE "\346\363\167" "\151\371\172\361\075\211\212\264\111\305\372\306\100\153\226\224"
 
-/* 64 labels and 512 pairs, with the text of its plan; the drawing of E */
+/* 64 labels and 512 pairs, with the text of its plan and that of what one more account costs; the drawing of E */
 #define FULL_POLICY "tests/plan/full.policy"
 #define FULL_TEXT "tests/plan/full.txt"
+#define FULL_GROWTH "tests/plan/full-growth.txt"
 #define E_DRAWING "tests/c/e.dot"
 
 void hashes(void);
 void policies(void);
 void plans(void);
+void growth(void);
 void texts(void);
 void issuing(void);
 void fingerprints(void);

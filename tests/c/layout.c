@@ -58,6 +58,14 @@ NEXT(yendlowa_weighed, least, zeros, 2);
 NEXT(yendlowa_weighed, zeros, total, 4);
 LAST(yendlowa_weighed, total);
 
+SIZE(yendlowa_grown, 144);
+FIRST(yendlowa_grown, refusal);
+NEXT(yendlowa_grown, refusal, zeros, 1);
+NEXT(yendlowa_grown, zeros, labels, 8);
+NEXT(yendlowa_grown, labels, costs, 16);
+NEXT(yendlowa_grown, costs, ceilings, 80);
+LAST(yendlowa_grown, ceilings);
+
 SIZE(yendlowa_text, 80);
 FIRST(yendlowa_text, text);
 LAST(yendlowa_text, text);

@@ -12,6 +12,7 @@ int main(void)
     everywhere("hash and HMAC", hashes);
     everywhere("policies read, counted and ordered", policies);
     everywhere("plans and trees weighed", plans);
+    everywhere("what one more account costs", growth);
     everywhere("texts and drawings, into buffers of every length", texts);
     everywhere("keys, and envelopes into buffers of every length", issuing);
     everywhere("fingerprints of root secrets", fingerprints);

@@ -1,6 +1,6 @@
 /*
- * yendlowa_plan_text, yendlowa_plan_dot: what they write into buffers of every length, that they touch nothing else, and that a
- * refused policy is refused before a short buffer.
+ * yendlowa_plan_text, yendlowa_plan_dot, yendlowa_growth_text: what they write into buffers of every length, that they touch nothing
+ * else, and that a refused policy is refused before a short buffer.
  */
 #include "groups.h"
 #include <string.h>
@@ -22,9 +22,9 @@ static void into_every_length(writer *write, bytes policy, bytes text)
 /* A refused policy is refused under its number whatever room there is, and nothing is written. */
 static void refused(bytes policy, uint8_t number)
 {
-    static writer *const writers[] = {yendlowa_plan_text, yendlowa_plan_dot};
+    static writer *const writers[] = {yendlowa_plan_text, yendlowa_plan_dot, yendlowa_growth_text};
     bytes p = input(0, policy);
-    for (size_t i = 0; i < 2; i++)
+    for (size_t i = 0; i < sizeof writers / sizeof *writers; i++)
         for (size_t length = 0; length <= 70; length++) {
             yendlowa_written w = writers[i](p.at, p.length, lend(length), length);
             check(w.refusal == number && w.length == 0 && holds_only(BYTES("")));
@@ -43,10 +43,11 @@ static bytes drawing(bytes policy)
 
 void texts(void)
 {
-    static bytes full, full_text, e_drawing;
+    static bytes full, full_text, full_growth, e_drawing;
     if (full.at == NULL) {
         full = read_file(FULL_POLICY);
         full_text = read_file(FULL_TEXT);
+        full_growth = read_file(FULL_GROWTH);
         e_drawing = read_file(E_DRAWING);
     }
     into_every_length(yendlowa_plan_text, BYTES(E),
@@ -54,6 +55,10 @@ void texts(void)
     into_every_length(yendlowa_plan_text, full, full_text);
     into_every_length(yendlowa_plan_dot, BYTES(E), e_drawing);
     into_every_length(yendlowa_plan_dot, full, drawing(full));
+    into_every_length(yendlowa_growth_text, BYTES(E), BYTES("SUITE 1 4\nCURVES 2 2\nCONV32 1 2\nACCRUED 1 1\n"));
+    into_every_length(yendlowa_growth_text, BYTES("LBONE     \377\377"), BYTES("ONE - -\n"));
+    into_every_length(yendlowa_growth_text, full, full_growth);
+    check(full_growth.length <= YENDLOWA_GROWTH_ROOM);
     refused(BYTES(""), YENDLOWA_EMPTY);
     refused(BYTES(E "OV\0"), YENDLOWA_CUT_SHORT);
     refused(BYTES(E "OV\3\3"), YENDLOWA_NOT_ABOVE);

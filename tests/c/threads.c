@@ -42,7 +42,8 @@ static bool planned(void)
     return yendlowa_plan(e, e_length).total == 17 && yendlowa_order(e, e_length).rows[3][0]
            && yendlowa_weigh(e, e_length, (const uint8_t *)"TR\0\0\0\1", 6).total == 19
            && yendlowa_plan_text(e, e_length, text, sizeof text).length == 82
-           && yendlowa_plan_dot(e, e_length, text, sizeof text).refusal == YENDLOWA_ACCEPTED;
+           && yendlowa_plan_dot(e, e_length, text, sizeof text).refusal == YENDLOWA_ACCEPTED
+           && yendlowa_growth(e, e_length).costs[1] == 2 && yendlowa_growth_text(e, e_length, text, sizeof text).length == 44;
 }
 
 static bool told(void)

@@ -7,6 +7,7 @@ use crate::envelope::{self, Envelope, Issuer};
 use crate::files;
 use crate::fingerprints;
 use crate::group::{hex, Answers, Group, Hex};
+use crate::growth;
 use crate::issuing;
 use crate::ours;
 use crate::plans::{self, Form};
@@ -39,7 +40,7 @@ const OF_ENVELOPE: &[u8] = &[0, 2, 3, 5, 6, 7, 17, 18, 19];
 const OF_DERIVE: &[u8] = &[0, 2, 3, 5, 6, 7, 17, 18, 19, 20];
 const OF_OPEN: &[u8] = &[0, 2, 3, 5, 6, 7, 16, 17, 18, 19, 20, 22, 23];
 
-const OPERATIONS: [Operation; 17] = [
+const OPERATIONS: [Operation; 19] = [
     Operation { name: "sha256", run: sha256, refusals: &[0, 21] },
     Operation { name: "hmac_sha256", run: hmac_sha256, refusals: &[0, 21] },
     Operation { name: "read_policy", run: read_policy, refusals: OF_POLICY },
@@ -49,6 +50,8 @@ const OPERATIONS: [Operation; 17] = [
     Operation { name: "weigh", run: weigh, refusals: OF_TREE },
     Operation { name: "plan_text", run: plan_text, refusals: OF_TEXT },
     Operation { name: "plan_dot", run: plan_dot, refusals: OF_TEXT },
+    Operation { name: "growth", run: growth, refusals: OF_POLICY },
+    Operation { name: "growth_text", run: growth_text, refusals: OF_TEXT },
     Operation { name: "issuer_key", run: issuer_key, refusals: OF_KEY },
     Operation { name: "issue", run: issue, refusals: OF_ISSUE },
     Operation { name: "seal", run: seal, refusals: OF_SEAL },
@@ -261,6 +264,16 @@ fn plan_text(case: &mut Case) {
 
 fn plan_dot(case: &mut Case) {
     written(case, &plans::DOT);
+}
+
+fn growth(case: &mut Case) {
+    let file = policy_file(case);
+    let second = growth::growth(&file);
+    case.compare(refusal(&second), || hex(&file), ours::growth(&file), second);
+}
+
+fn growth_text(case: &mut Case) {
+    written(case, &plans::GROWTH);
 }
 
 /// A name to ask the issuer for: of a label, more often of one with accounts, or one that the policy has not.

@@ -46,6 +46,16 @@ pub struct Plan {
 
 #[repr(C)]
 #[derive(Debug, PartialEq)]
+pub struct Growth {
+    pub refusal: u8,
+    pub zeros: [u8; 7],
+    pub labels: usize,
+    pub costs: [u8; 64],
+    pub ceilings: [u8; 64],
+}
+
+#[repr(C)]
+#[derive(Debug, PartialEq)]
 pub struct Weighed {
     pub refusal: u8,
     pub least: bool,
@@ -117,6 +127,13 @@ extern "C" {
         out_length: usize,
     ) -> Written;
     pub fn yendlowa_plan_dot(
+        policy: *const u8,
+        policy_length: usize,
+        out: *mut u8,
+        out_length: usize,
+    ) -> Written;
+    pub fn yendlowa_growth(policy: *const u8, length: usize) -> Growth;
+    pub fn yendlowa_growth_text(
         policy: *const u8,
         policy_length: usize,
         out: *mut u8,

@@ -13,6 +13,8 @@ mod envelope;
 mod files;
 mod fingerprints;
 mod group;
+mod growing;
+mod growth;
 mod issuing;
 mod library;
 mod ours;
@@ -37,6 +39,7 @@ fn groups(random: &mut Random, second: &sha256::Sha256) -> Vec<bool> {
     let results = [
         reading::groups(random, second),
         plans::groups(random, counts),
+        growing::groups(random),
         issuing::groups(random, second, issued),
         deriving::groups(random, second, issued),
         fingerprints::groups(random, second),

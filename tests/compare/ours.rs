@@ -109,6 +109,24 @@ pub fn plan_dot(policy: &[u8], out: &mut [u8]) -> Result<usize, u8> {
     length(unsafe { yendlowa_plan_dot(at(policy), policy.len(), at_mut(out), out.len()) })
 }
 
+/// For each label what one more account costs and the ceiling, or the refusal. Entries past the label count, and
+/// all beside a refusal, have to be zero.
+pub fn growth(policy: &[u8]) -> Result<Vec<(u8, u8)>, u8> {
+    let answer = unsafe { yendlowa_growth(at(policy), policy.len()) };
+    let figures: Vec<(u8, u8)> = answer.costs.into_iter().zip(answer.ceilings).collect();
+    let behind_zero = figures.iter().skip(answer.labels).all(|both| *both == (0, 0)) && answer.zeros == [0; 7];
+    match (answer.refusal, answer.labels) {
+        (0, labels @ ..=64) if behind_zero => Ok(figures[..labels].to_vec()),
+        (number, 0) if number != 0 && behind_zero => Err(number),
+        _ => Err(255),
+    }
+}
+
+/// The length of its text that was written into `out`, or the refusal.
+pub fn growth_text(policy: &[u8], out: &mut [u8]) -> Result<usize, u8> {
+    length(unsafe { yendlowa_growth_text(at(policy), policy.len(), at_mut(out), out.len()) })
+}
+
 /// The issuer's key, or the refusal. Beside a refusal stand 32 zero bytes.
 pub fn issuer_key(policy: &[u8], name: &[u8], root: &[u8]) -> Result<[u8; 32], u8> {
     let answer = unsafe {

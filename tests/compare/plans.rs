@@ -1,14 +1,16 @@
-//! The groups that compare plans, weighed trees, texts and drawings.
+//! The groups that compare plans, weighed trees, texts and drawings. The texts of what one more account costs are
+//! among the texts.
 
 use crate::brute::{self, Tried};
 use crate::files;
 use crate::group::{hex, Answers, Group};
+use crate::growth;
 use crate::ours;
 use crate::policy::Policy;
 use crate::random::Random;
 use crate::tree::{self, Plan, Planned};
 
-/// A way to write a plan: ours into a buffer, with the length, and the second implementation's bytes, or the refusal.
+/// A text of a policy: ours into a buffer, with the length, and the second implementation's bytes, or the refusal.
 pub struct Form {
     name: &'static str,
     pub ours: fn(&[u8], &mut [u8]) -> Result<usize, u8>,
@@ -17,7 +19,8 @@ pub struct Form {
 
 pub const TEXT: Form = Form { name: "text", ours: ours::plan_text, second: tree::text };
 pub const DOT: Form = Form { name: "drawing", ours: ours::plan_dot, second: tree::dot };
-const FORMS: [Form; 2] = [TEXT, DOT];
+pub const GROWTH: Form = Form { name: "growth", ours: ours::growth_text, second: growth::text };
+const FORMS: [Form; 3] = [TEXT, DOT, GROWTH];
 
 /// What the library was asked for, over all groups.
 #[derive(Default)]
@@ -64,7 +67,7 @@ impl<'a> Asked<'a> {
         self.group.case(what, (said, buffer), (answer, expected));
     }
 
-    /// Text and drawing with room for it, just room, one byte less, and more or less at random.
+    /// Each text with room for it, just room, one byte less, and more or less at random.
     fn texts(&mut self, random: &mut Random, file: &[u8]) {
         for form in &FORMS {
             let text = (form.second)(file);
@@ -101,6 +104,12 @@ const E_DOT: &str = r#"digraph plan {
   label="TOTAL 17";
 }
 "#;
+
+const E_GROWTH: &str = "SUITE 1 4
+CURVES 2 2
+CONV32 1 2
+ACCRUED 1 1
+";
 
 /// 9 labels below the top and 54 below each of these, with 65,535 accounts each. In the plan the 54 hang from
 /// label 9, so each of the other 8 holds 54 keys beside its own.
@@ -205,7 +214,7 @@ fn by_hand(counts: &mut Counts) -> bool {
         asked.weigh(&file, &offered, answer);
     }
     let e = files::written_e(&files::E_PAIRS);
-    for (form, text) in [(TEXT, E_TEXT), (DOT, E_DOT)] {
+    for (form, text) in [(TEXT, E_TEXT), (DOT, E_DOT), (GROWTH, E_GROWTH)] {
         let expected = Ok(text.as_bytes().to_vec());
         asked.group.case(|| format!("{} of E, second alone", form.name), &(form.second)(&e), &expected);
         for room in 0..text.len() + 9 {

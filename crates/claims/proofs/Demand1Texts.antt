@@ -14,7 +14,7 @@ use Rattle.plan_texts.specs.TextAnswer.{textWritten, textAfter}
 use Rattle.plan_texts.specs.Listing.{planText}
 use Rattle.claims.specs.Demand1Texts.{OfWritten, Demand1OfTexts}
 
-of-written : (policy bytes out : List ℕ)
+pub of-written : (policy bytes out : List ℕ)
     → OfWritten policy bytes (writtenUnless (policyRefusal policy) bytes (length out)) out (bufferUnless (policyRefusal policy) bytes out)
 of-written policy bytes out = record {
   policy-first = λ h. ap (λ (w : Written). w .refusal) (unless-refused bytes (length out) h);

@@ -5,7 +5,9 @@ pub mod Demand1Sealed
 pub mod Demand1Texts
 pub mod Demand2
 pub mod Demand3
+pub mod Growth
 pub mod Programs
 pub mod Published
+pub mod Raised
 pub mod Sealed
 pub mod Starred

@@ -7,6 +7,7 @@ use Rattle.envelope_file.proofs.Front.{derived-front, labels-front, records-fro
 use Rattle.plan_texts.proofs.DrawingFront.{drawing-front}
 use Rattle.faults.proofs.Front.{second-top-front, ill-hung-front}
 use Rattle.fingerprint.proofs.Laws.{fingerprint-front}
+use Rattle.growth_answers.proofs.Front.{growth-front}
 use Rattle.issuer_answers.proofs.Front.{key-front, issued-front, buffer-front, key-root-front, issued-root-front, buffer-root-front}
 use Rattle.plan_answers.proofs.Front.{weigh-front, weigh-tree-front}
 use Rattle.policy_file.proofs.Front.{front-answers, front-records}
@@ -19,6 +20,7 @@ pub plans-from-front : (policy : List ℕ) → OfPlans policy
 plans-from-front policy = record {
   text = sym (printed-front 4096 (omega arith) policy);
   drawing = sym (drawing-front 4096 (omega arith) policy);
+  growth = sym (growth-front 4096 (omega arith) policy);
 }
 
 pub issuer-from-front : (policy tree name root : List ℕ) (account : ℕ) (out : List ℕ) (room : ℕ) → OfIssuer policy tree name root account out room

@@ -10,6 +10,7 @@ use Rattle.envelope_file.specs.Whole.{envelopeRecordsRead}
 use Rattle.plan_texts.specs.DrawingAnswer.{printedDrawing}
 use Rattle.faults.specs.Faults.{secondTop, illHung}
 use Rattle.fingerprint.specs.Fingerprint.{fingerprintOf}
+use Rattle.growth_answers.specs.GrowthTextAnswer.{printedGrowth}
 use Rattle.issuer_answers.specs.Issue.{issuedOf, envelopeAfter}
 use Rattle.issuer_answers.specs.Keys.{issuerKeyOf}
 use Rattle.plan_answers.specs.Weighing.{weighOf}
@@ -22,10 +23,11 @@ use Rattle.seal_answers.specs.Seal.{sealedOf, fileAfter}
 abbrev pub front : List ℕ → List ℕ
 front file = take 4096 file
 
--- `yendlowa plan`, which prints what the program `plan` prints, and `yendlowa draw`; for refused policies too
+-- `yendlowa plan`, which prints what the program `plan` prints, `yendlowa draw` and `yendlowa growth`; for refused policies too
 pub record OfPlans (policy : List ℕ) : Type 0 where
   pub text : printed (front policy) ≡ printed policy
   pub drawing : printedDrawing (front policy) ≡ printedDrawing policy
+  pub growth : printedGrowth (front policy) ≡ printedGrowth policy
 
 -- `yendlowa weigh`, `key` and `issue`, the fingerprint that the latter two can print, and which record or label they name as refused
 pub record OfIssuer (policy tree name root : List ℕ) (account : ℕ) (out : List ℕ) (room : ℕ) : Type 0 where

@@ -7,7 +7,7 @@ use lib.ListN.{take}
 use Rattle.decimals.specs.Worded.{refusedText}
 use Rattle.outcomes.proofs.Ending.{not-both, ends-refusing}
 use Rattle.outcomes.specs.declared.Ended.{Ended}
-use Rattle.issuer_calls.specs.Ran.{Performed, planned, drawn, weighed, keyed, issued, drew, sealed, undone, Ran, performed, helped, versioned, failed}
+use Rattle.issuer_calls.specs.Ran.{Performed, planned, drawn, weighed, keyed, issued, drew, sealed, grown, undone, Ran, performed, helped, versioned, failed}
 
 verb-refused : (verb : ℕ) (e : Ended) → Performed verb e → e .ok ≡ true → e .refusal ≢ 0 → take (e .length) (e .text) ≡ refusedText (e .refusal)
 verb-refused verb e h ok nz = go h
@@ -20,6 +20,7 @@ verb-refused verb e h ok nz = go h
     go (issued k option account h) = ends-refusing _ _ e (h .3) ok nz
     go (drew k h) = ends-refusing _ _ e (h .2) ok nz
     go (sealed k option h) = ends-refusing _ _ e (h .5) ok nz
+    go (grown k h) = ends-refusing _ _ e (h .1) ok nz
     go (undone f) = not-both f ok
 
 pub ran-refused : (e : Ended) → Ran e → e .ok ≡ true → e .refusal ≢ 0 → take (e .length) (e .text) ≡ refusedText (e .refusal)

@@ -7,6 +7,7 @@ use lib.ListN.{length, take}
 use Rattle.answers.specs.Version.{versionLine}
 use Rattle.decimals.specs.Text.{bytesOf}
 use Rattle.fingerprint.specs.Fingerprint.{fingerprintOf}
+use Rattle.growth_answers.specs.GrowthListing.{growthText}
 use Rattle.issuer_answers.specs.Issue.{issuedOf}
 use Rattle.issuer_answers.specs.Keys.{issuerKeyOf}
 use Rattle.issuer_tables.specs.Calls.{verbs}
@@ -43,6 +44,9 @@ IssueEnds option account e = (policy : List ℕ) × (name : List ℕ) × (root :
 abbrev pub RootEnds : Ended → Type 0
 RootEnds e = (root : List ℕ) × (length root ≡ 32) × Ends 0 (fingerprintLine (fingerprintOf root .bytes)) e
 
+abbrev pub GrowthEnds : Ended → Type 0
+GrowthEnds e = (policy : List ℕ) × Ends (policyRefusal policy) (growthText policy) e
+
 -- How a call of the verb at this place of the list of verbs ended.
 pub data Performed (verb : ℕ) (e : Ended) : Type 0 where
   planned : verb ≡ 0 → PlanEnds e → Performed verb e
@@ -52,6 +56,7 @@ pub data Performed (verb : ℕ) (e : Ended) : Type 0 where
   issued : verb ≡ 4 → (option : Bool) (account : ℕ) → IssueEnds option account e → Performed verb e
   drew : verb ≡ 5 → RootEnds e → Performed verb e
   sealed : verb ≡ 6 → (option : Bool) → SealEnds option e → Performed verb e
+  grown : verb ≡ 7 → GrowthEnds e → Performed verb e
   undone : e .ok ≡ false → Performed verb e
 
 -- How a call ended: as the verb that some word says, with the help or the version, or as one that failed.

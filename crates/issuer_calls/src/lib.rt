@@ -31,6 +31,7 @@ fn perform(program: &[u8], verb: usize, count: usize, option: bool) -> Ended
         4 => keys::issue(program, option),
         5 => keys::root(program),
         6 => seal_call::seal(program, reports::first_argument(option), option),
+        7 => plans::growth(program, count == 3),
         _ => outcomes::failed(),
     }
 }

@@ -1,8 +1,8 @@
-// The arguments of `plan`, `draw` and `weigh`. Wrong calls are told before any file is read.
+// The arguments of `plan`, `draw`, `weigh` and `growth`. Wrong calls are told before any file is read.
 use crate::reports;
 use files::Read;
 use outcomes::Ended;
-ghost use Rattle.issuer_calls.specs.Ran.{PlanEnds, DrawEnds, WeighEnds};
+ghost use Rattle.issuer_calls.specs.Ran.{PlanEnds, DrawEnds, WeighEnds, GrowthEnds};
 ghost use Rattle.io.specs.Counts.{Counts};
 
 // Reads the policy that the argument after the verb names, standard input where there is none.
@@ -56,4 +56,16 @@ pub(crate) fn weigh(program: &[u8]) -> Ended
         &tree[..tree_length],
         ended,
     )
+}
+
+// `growth [POLICY]`
+pub(crate) fn growth(program: &[u8], given: bool) -> Ended
+    ensures { λ r. ⌜ GrowthEnds r ⌝ }
+{
+    // As for `plan` (`growth-front`, crate growth_answers).
+    let mut policy = io::buffer();
+    let read = read_policy(program, given, &mut policy);
+    let length = read.length;
+    let ended = plan_verbs::growth(read.ok, &policy[..length]);
+    reports::of_policy(program, &policy[..length], ended)
 }

@@ -14,7 +14,7 @@ const WORDS: [[u8; 16]; 16] = [
     *b"issue           ",
     *b"root            ",
     *b"seal            ",
-    *b"                ",
+    *b"growth          ",
     *b"                ",
     *b"                ",
     *b"                ",
@@ -35,14 +35,14 @@ pub fn words() -> [[u8; 16]; 16]
 pub fn least() -> [u8; 16]
     ensures { λ r. ⌜ r ≡ leastOf verbs ⌝ }
 {
-    [2, 2, 4, 5, 7, 3, 8, 0, 0, 0, 0, 0, 0, 0, 0, 0]
+    [2, 2, 4, 5, 7, 3, 8, 2, 0, 0, 0, 0, 0, 0, 0, 0]
 }
 
 // The greatest number of arguments of each.
 pub fn most() -> [u8; 16]
     ensures { λ r. ⌜ r ≡ mostOf verbs ⌝ }
 {
-    [3, 3, 4, 5, 7, 3, 8, 0, 0, 0, 0, 0, 0, 0, 0, 0]
+    [3, 3, 4, 5, 7, 3, 8, 3, 0, 0, 0, 0, 0, 0, 0, 0]
 }
 
 // How each is called.
@@ -54,7 +54,7 @@ const SYNOPSES: [[u8; 80]; 16] = [
     *b"yendlowa issue [--fingerprint] POLICY NAME ACCOUNT ROOT OUT                     ",
     *b"yendlowa root OUT                                                               ",
     *b"yendlowa seal [--fingerprint] POLICY NAME ROOT NONCE TEXT OUT                   ",
-    *b"                                                                                ",
+    *b"yendlowa growth [POLICY]                                                        ",
     *b"                                                                                ",
     *b"                                                                                ",
     *b"                                                                                ",

@@ -1,4 +1,4 @@
-// The parts of lines that the plan's text and its drawing are made of: names of labels, and numbers.
+// The parts of lines that the plan's text, its drawing and the text of growth are made of: names of labels, and numbers.
 ghost use Prim.Native.Nat.{_+_, _*_, _≤_};
 ghost use lib.ListN.{length};
 ghost use Rattle.buffers.specs.Put.{Put};

@@ -2,6 +2,7 @@
 // the files could be read.
 use outcomes::Ended;
 ghost use mathlib.Core.Path.{_≡_};
+ghost use Rattle.growth_answers.specs.GrowthListing.{growthText};
 ghost use Rattle.plan_texts.specs.Drawing.{dotText};
 ghost use Rattle.weigh_lines.specs.Weighed.{weighedText};
 ghost use Rattle.outcomes.specs.Status.{Ends};
@@ -39,4 +40,15 @@ pub fn weigh(read: bool, policy: &[u8], tree: &[u8]) -> Ended
     let mut out = [0u8; 64];
     let end = weigh_lines::put_weighed(&mut out, weighed.total, weighed.least);
     outcomes::ended_with(read, weighed.refusal, &out[..end])
+}
+
+// What one more account costs at each label of a policy.
+pub fn growth(read: bool, policy: &[u8]) -> Ended
+    ensures { λ r. ⌜ (r .ok ≡ read) × Ends (policyRefusal (now (policy .entry))) (growthText (now (policy .entry))) r ⌝ }
+{
+    // 1,024 bytes suffice (`growth-suffices`, crate growth_answers).
+    let mut out = [0u8; 1024];
+    let grown = growth_text::growth_text(policy, &mut out);
+    let length = grown.length;
+    outcomes::ended_with(read, grown.refusal, &out[..length])
 }

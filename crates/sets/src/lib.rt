@@ -23,7 +23,7 @@ pub fn in_smallest(rows: &[[bool; 64]; 64], parents: &[u8; 64], l: usize, m: usi
 }
 
 // The size of a set, with one label more if that is in it.
-fn counted(size: u8, held: bool) -> u8
+pub fn counted(size: u8, held: bool) -> u8
     requires { ⌜ size ≤ 64 ⌝ }
     ensures { λ r. ⌜ r ≡ size + cond held 1 0 ⌝ }
 {

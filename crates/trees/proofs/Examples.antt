@@ -13,6 +13,7 @@ use Rattle.trees.specs.Sums.{sum, sumWhere, select}
 use Rattle.trees.specs.Trees.{top, Fewest}
 use Rattle.trees.specs.Order.{Order}
 use Rattle.trees.specs.Weights.{weighed, weight, inSmallest, smallest, labelKeys, total, takes, best, plan, least}
+use Rattle.trees.specs.Growth.{oneMore, planTotal, cost, below, ceiling}
 use Rattle.trees.proofs.Lists.{not-both, both-yes}
 use Rattle.trees.proofs.Fewest.{plan-fewest}
 
@@ -93,6 +94,25 @@ exchanged-total = refl
 pub labels-counted : map (λ count. total 4 count leE (plan 4 (λ l. 1) leE)) (countE ∷ countX ∷ []) ≡ 17 ∷ 19 ∷ []
 unfolding countE countX leE total labelKeys plan best takes smallest inSmallest weight weighed sum sumWhere select
 labels-counted = refl
+
+-- ---- 02, Ask 3: what one more account costs. In E it is 1 at the top, though all 4 labels are at or below that, and 2 at CURVES, with 2 at or below.
+
+pub E-costs : map (cost 4 countE leE) labels ≡ 1 ∷ 2 ∷ 1 ∷ 1 ∷ []
+unfolding countE leE labels oneMore planTotal cost total labelKeys plan best takes smallest inSmallest weight weighed sum sumWhere select
+E-costs = refl
+
+pub E-ceilings : map (ceiling 4 leE) labels ≡ 4 ∷ 2 ∷ 2 ∷ 1 ∷ []
+unfolding leE labels below ceiling select
+E-ceilings = refl
+
+-- With CURVES 5 the two parents of ACCRUED weigh the same, and it hangs from CONV32. One account more at CURVES makes it hang from CURVES: 1 key more,
+-- where under the old tree it would be 2.
+unfoldable pub countT : ℕ → ℕ
+countT = at (2 ∷ 5 ∷ 5 ∷ 4 ∷ [])
+
+pub tied-costs : map (cost 4 countT leE) labels ≡ 1 ∷ 1 ∷ 1 ∷ 1 ∷ []
+unfolding countT leE labels oneMore planTotal cost total labelKeys plan best takes smallest inSmallest weight weighed sum sumWhere select
+tied-costs = refl
 
 -- ---- the demand at E
 

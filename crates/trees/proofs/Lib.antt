@@ -12,3 +12,5 @@ pub mod Examples
 pub mod Tables
 pub mod Widths
 pub mod Accounts
+pub mod Growth
+pub mod TopGrowth

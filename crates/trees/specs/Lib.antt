@@ -4,3 +4,4 @@ pub mod Order
 pub mod Weights
 pub mod Published
 pub mod Accounts
+pub mod Growth

@@ -1,6 +1,6 @@
 -- `issuer_calls::perform` meets its contract: it ends as the verb does.
 use borrow.Author.Needs.{needs}
-use Rattle.issuer_calls.specs.Ran.{planned, drawn, weighed, keyed, issued, drew, sealed, undone}
+use Rattle.issuer_calls.specs.Ran.{planned, drawn, weighed, keyed, issued, drew, sealed, grown, undone}
 use Rattle.issuer_calls.proofs.perform.Statement.{statement}
 use Rattle.issuer_calls.proofs.perform.Tie as tie
 
@@ -28,6 +28,9 @@ first-argument-requires c κs = search needs
 seal-requires : tie.Need-seal-requires
 seal-requires c κs = search needs
 
+growth-requires : tie.Need-growth-requires
+growth-requires c κs = search needs
+
 failed-requires : tie.Need-failed-requires
 failed-requires c κs = search needs
 
@@ -53,7 +56,10 @@ returns-7 : tie.Need-returns-7
 returns-7 c = sealed (c .before .before .match .keys7) _ (c .seal .ensures)
 
 returns-8 : tie.Need-returns-8
-returns-8 c = undone (c .failed .ensures)
+returns-8 c = grown (c .before .match .keys8) (c .growth .ensures)
+
+returns-9 : tie.Need-returns-9
+returns-9 c = undone (c .failed .ensures)
 
 pub perform-spec : {M : Type 1} → statement M
 perform-spec =
@@ -67,6 +73,7 @@ perform-spec =
     root-requires
     first-argument-requires
     seal-requires
+    growth-requires
     failed-requires
     returns
     returns-2
@@ -75,4 +82,5 @@ perform-spec =
     returns-5
     returns-6
     returns-7
-    returns-8)
+    returns-8
+    returns-9)

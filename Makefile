@@ -43,7 +43,7 @@ MAJOR := $(word 1,$(NUMBERS))
 
 # What belongs to the issuer and what to the desk. A part is a crate, and one object of the library; the last is in both.
 SIDES := issuer desk
-PARTS_issuer := hash_c policy_c plan_c growth_c issuer_c seal_c refusals_c
+PARTS_issuer := hash_c policy_c plan_c growth_c issuer_c seal_c roster_c roster_plans_c roster_issuer_c refusals_c
 PARTS_desk := desk_c open_c refusals_c
 PROGRAMS_issuer := build/bin/yendlowa build/bin/yendlowa-encode
 PROGRAMS_desk := build/bin/yendlowa-desk

@@ -1,21 +1,25 @@
 /*
- * The issuer's side of Yendlowa: policies read, planned and weighed, what one more account costs, the issuer's keys, envelopes
- * written, and module files sealed. Link with -lyendlowa-issuer. The libraries are for x86-64 Linux.
+ * The issuer's side of Yendlowa: policies read, planned and weighed, what one more account costs, rosters of accounts, the issuer's
+ * keys, envelopes written, and module files sealed. Link with -lyendlowa-issuer. The libraries are for x86-64 Linux.
  *
  * No function allocates, keeps anything between calls or does input or output, so any number of threads may call them at
  * once. Every function may be called with any bytes. A byte array is passed as a pointer and a length; the pointer may
  * be null when the length is 0, and only then. The bytes passed are not changed. Answers are returned by value and have no padding:
- * each byte of an answer belongs to a field, and what is passed determines it. 64 kB of stack suffice for any call. Secrets pass over
- * that stack and are not wiped from it.
+ * each byte of an answer belongs to a field, and what is passed determines it. 64 kB of stack suffice for any call without a roster,
+ * 256 kB for one with a roster. Secrets pass over that stack and are not wiped from it.
  *
  * Some functions write into a buffer that the caller lends (`out`): all that is to be written, from the buffer's start on, or, with
  * a refusal, nothing at all. A buffer that is too short, or null with length 0, is refused with 16, after everything that
- * can be refused in the policy and the other arguments. No byte after what is written is touched. A lent buffer must not overlap
- * the other arrays passed in that call.
+ * can be refused in the policy, the roster and the other arguments. No byte after what is written is touched. A lent buffer must not
+ * overlap the other arrays passed in that call.
  *
  * A policy file has at most 64 labels and 512 pairs: for each label LB, its name (8 bytes) and its accounts (2 bytes, most significant
  * first), then for each pair OV, the upper label's number and the lower label's number (1 byte each). Labels are numbered from 0 in
  * file order, and an upper label has the smaller number.
+ *
+ * A roster file says which accounts there are and where each stands. Each function that depends on the accounts has a sibling whose
+ * name ends in _roster and that takes a roster beside the policy: there the roster's accounts count, and those in the LB records do
+ * not. An empty roster has no accounts, so it is not the same as none.
  *
  *     yendlowa_written w = yendlowa_issue(policy, policy_length, (const uint8_t *)"CONV32  ", YENDLOWA_NAME, 5,
  *                                         root, root_length, envelope, sizeof envelope);
@@ -34,14 +38,17 @@
 extern "C" {
 #endif
 
-#define YENDLOWA_PAIRS 512         /* the most over-pairs that a policy can have */
-#define YENDLOWA_TEXT_ROOM 4096    /* no plan's text has more bytes */
-#define YENDLOWA_DRAWING_ROOM 8192 /* no plan's drawing has more bytes */
-#define YENDLOWA_GROWTH_ROOM 1024  /* yendlowa_growth_text never writes more bytes */
+#define YENDLOWA_PAIRS 512              /* the most over-pairs that a policy can have */
+#define YENDLOWA_ACCOUNTS 4096          /* the most accounts that a roster can have; they are numbered from 1 */
+#define YENDLOWA_TEXT_ROOM 4096         /* no plan's text has more bytes */
+#define YENDLOWA_DRAWING_ROOM 8192      /* no plan's drawing has more bytes */
+#define YENDLOWA_GROWTH_ROOM 1024       /* yendlowa_growth_text never writes more bytes */
+#define YENDLOWA_ROSTER_TEXT_ROOM 98304 /* no roster's text has more bytes */
 
 /*
  * How much of a file decides: more bytes than this do not change an answer, so it is enough to read this many from a file.
  * YENDLOWA_ENVELOPE_ROOM, in yendlowa_refusals.h, is the same for envelopes, and has room for every envelope that is issued.
+ * There is no such number for rosters: a roster file may have any length, every record of it counts, and it has to be read whole.
  */
 #define YENDLOWA_POLICY_ROOM 2828
 #define YENDLOWA_TREE_ROOM 67
@@ -98,6 +105,79 @@ typedef struct yendlowa_rows {
  */
 yendlowa_rows yendlowa_order(const uint8_t *policy, size_t policy_length);
 
+/* ---- rosters ---- */
+
+/* How an account of a roster stands. */
+enum yendlowa_standing {
+    YENDLOWA_UNKNOWN = 0,   /* no record has joined it yet */
+    YENDLOWA_WITHDRAWN = 1, /* for good: its number is not used again */
+    YENDLOWA_ACTIVE = 2,    /* on a label */
+    YENDLOWA_HELD = 3       /* on a label, but envelopes are not issued to it until it is released or moved */
+};
+
+typedef struct yendlowa_roster {
+    uint8_t refusal;
+    uint8_t zeros[7];                  /* always 0 */
+    size_t labels;                     /* 1 to 64, as the policy has */
+    uint16_t counts[YENDLOWA_LABELS];  /* the accounts that stand on each label, held ones included; zeros after the last label */
+    uint8_t states[YENDLOWA_ACCOUNTS]; /* how account i + 1 stands, an enum yendlowa_standing */
+    uint8_t places[YENDLOWA_ACCOUNTS]; /* the number of the label that it stands on; 0 if it is unknown or withdrawn */
+} yendlowa_roster;
+
+/*
+ * What a roster file says: how each account stands after its last record. It has records of five kinds, in any order and of any
+ * number, and may be empty. An account's number has 2 bytes, most significant first, and is 1 to 4,096; a label's name has 8 bytes.
+ *
+ *     JN number name    the account joins: it is active on the label from here on
+ *     MV number name    it moves, and is active on this label, also if it was held or is on this label already
+ *     HD number         it is held; nothing changes if it was held before
+ *     RL number         it is released; nothing changes if it was active before
+ *     WD number         it is withdrawn
+ *
+ * The answer has 8,336 bytes. A roster file has no bound on its length; the time of a call grows in proportion to its records.
+ *
+ * Takes    a policy file and a roster file.
+ * Gives    for each label how many accounts stand on it, and for each account how and where it stands. The counts sum to the joins
+ *          less the withdrawals.
+ * Refuses  as `yendlowa_read_policy` does; then, record by record of the roster, 2 and 3; 24 for JN, 25 for the others; and 13 for
+ *          JN and MV.
+ */
+yendlowa_roster yendlowa_read_roster(const uint8_t *policy, size_t policy_length, const uint8_t *roster, size_t roster_length);
+
+/*
+ * Where the reading of a roster file stops: how many records pass before its end or its first refused record.
+ *
+ * Takes    any bytes, as a policy file and a roster file.
+ * Gives    for a refused roster the number of the refused record, counted from 0; for an accepted one the number of all its records;
+ *          0 if the policy is refused.
+ * Refuses  nothing.
+ */
+size_t yendlowa_roster_records(const uint8_t *policy, size_t policy_length, const uint8_t *roster, size_t roster_length);
+
+/*
+ * A roster as text: a line for each account that is known, in the order of their numbers, with its number, its label's name and
+ * `active` or `held`, or with its number, - and `withdrawn`; then a line for each label, with its name and its accounts; then TOTAL
+ * and their sum. No null byte follows the text.
+ *
+ * Takes    a policy file, a roster file, and a buffer; YENDLOWA_ROSTER_TEXT_ROOM bytes always suffice.
+ * Gives    the length of the text, which starts at the buffer's start.
+ * Refuses  as `yendlowa_read_roster` does; then 16.
+ */
+yendlowa_written yendlowa_roster_text(const uint8_t *policy, size_t policy_length, const uint8_t *roster, size_t roster_length,
+                                      uint8_t *out, size_t out_length);
+
+/*
+ * The policy file with the roster's counts in place of those in its LB records. Plan, totals, growth, keys and sealed files of this
+ * policy are those of the policy with the roster. Envelopes are not issued from it but by `yendlowa_issue_roster`, which knows the
+ * numbers of the accounts.
+ *
+ * Takes    a policy file, a roster file, and a buffer as long as the policy file.
+ * Gives    the length of the new policy file, that of the old one.
+ * Refuses  as `yendlowa_read_roster` does; then 16.
+ */
+yendlowa_written yendlowa_count_policy(const uint8_t *policy, size_t policy_length, const uint8_t *roster, size_t roster_length,
+                                       uint8_t *out, size_t out_length);
+
 /* ---- plans ---- */
 
 typedef struct yendlowa_planned {
@@ -121,6 +201,15 @@ typedef struct yendlowa_planned {
  */
 yendlowa_planned yendlowa_plan(const uint8_t *policy, size_t policy_length);
 
+/*
+ * The same with the accounts of a roster: no tree needs fewer keys for them.
+ *
+ * Takes    a policy file and a roster file.
+ * Gives    the plan.
+ * Refuses  as `yendlowa_read_roster` does.
+ */
+yendlowa_planned yendlowa_plan_roster(const uint8_t *policy, size_t policy_length, const uint8_t *roster, size_t roster_length);
+
 typedef struct yendlowa_weighed {
     uint8_t refusal;
     bool least;       /* whether no tree of the policy needs fewer */
@@ -138,6 +227,16 @@ typedef struct yendlowa_weighed {
 yendlowa_weighed yendlowa_weigh(const uint8_t *policy, size_t policy_length, const uint8_t *tree, size_t tree_length);
 
 /*
+ * The same with the accounts of a roster.
+ *
+ * Takes    a policy file, a roster file, and a tree file.
+ * Gives    the tree's total, and whether it is the least.
+ * Refuses  as `yendlowa_read_roster` does; then 2, 11 and 12 for the tree file.
+ */
+yendlowa_weighed yendlowa_weigh_roster(const uint8_t *policy, size_t policy_length, const uint8_t *roster, size_t roster_length,
+                                       const uint8_t *tree, size_t tree_length);
+
+/*
  * The plan as text: a line for each label and one with the total, as `yendlowa plan` prints it. No null byte follows
  * the text. For a refused policy nothing is written; the line REFUSED is the program's.
  *
@@ -148,6 +247,16 @@ yendlowa_weighed yendlowa_weigh(const uint8_t *policy, size_t policy_length, con
 yendlowa_written yendlowa_plan_text(const uint8_t *policy, size_t policy_length, uint8_t *out, size_t out_length);
 
 /*
+ * The same with the accounts of a roster.
+ *
+ * Takes    a policy file, a roster file, and a buffer; YENDLOWA_TEXT_ROOM bytes always suffice.
+ * Gives    the length of the text, which starts at the buffer's start.
+ * Refuses  as `yendlowa_read_roster` does; then 16.
+ */
+yendlowa_written yendlowa_plan_text_roster(const uint8_t *policy, size_t policy_length, const uint8_t *roster, size_t roster_length,
+                                           uint8_t *out, size_t out_length);
+
+/*
  * The plan as a drawing for Graphviz, in the language DOT, as `yendlowa draw` prints it. No null byte follows the drawing.
  *
  * Takes    a policy file, and a buffer; YENDLOWA_DRAWING_ROOM bytes always suffice.
@@ -155,6 +264,16 @@ yendlowa_written yendlowa_plan_text(const uint8_t *policy, size_t policy_length,
  * Refuses  as `yendlowa_read_policy` does; then 16.
  */
 yendlowa_written yendlowa_plan_dot(const uint8_t *policy, size_t policy_length, uint8_t *out, size_t out_length);
+
+/*
+ * The same with the accounts of a roster.
+ *
+ * Takes    a policy file, a roster file, and a buffer; YENDLOWA_DRAWING_ROOM bytes always suffice.
+ * Gives    the length of the drawing, which starts at the buffer's start.
+ * Refuses  as `yendlowa_read_roster` does; then 16.
+ */
+yendlowa_written yendlowa_plan_dot_roster(const uint8_t *policy, size_t policy_length, const uint8_t *roster, size_t roster_length,
+                                          uint8_t *out, size_t out_length);
 
 /* ---- what one more account costs ---- */
 
@@ -179,6 +298,15 @@ typedef struct yendlowa_grown {
 yendlowa_grown yendlowa_growth(const uint8_t *policy, size_t policy_length);
 
 /*
+ * The same with the accounts of a roster. A label there has at most 4,096 accounts, so every label has its cost and its ceiling.
+ *
+ * Takes    a policy file and a roster file.
+ * Gives    cost and ceiling of each label: the cost is at least 1 and at most the ceiling.
+ * Refuses  as `yendlowa_read_roster` does.
+ */
+yendlowa_grown yendlowa_growth_roster(const uint8_t *policy, size_t policy_length, const uint8_t *roster, size_t roster_length);
+
+/*
  * The same as text, as `yendlowa growth` prints it: a line for each label, with its name, cost and ceiling; - stands for each of the
  * two if the label has 65,535 accounts. No null byte follows the text.
  *
@@ -187,6 +315,16 @@ yendlowa_grown yendlowa_growth(const uint8_t *policy, size_t policy_length);
  * Refuses  as `yendlowa_read_policy` does; then 16.
  */
 yendlowa_written yendlowa_growth_text(const uint8_t *policy, size_t policy_length, uint8_t *out, size_t out_length);
+
+/*
+ * The same with the accounts of a roster.
+ *
+ * Takes    a policy file, a roster file, and a buffer; YENDLOWA_GROWTH_ROOM bytes always suffice.
+ * Gives    the length of the text, which starts at the buffer's start.
+ * Refuses  as `yendlowa_read_roster` does; then 16.
+ */
+yendlowa_written yendlowa_growth_text_roster(const uint8_t *policy, size_t policy_length, const uint8_t *roster, size_t roster_length,
+                                             uint8_t *out, size_t out_length);
 
 /* ---- keys and envelopes ---- */
 
@@ -206,6 +344,17 @@ yendlowa_label_key yendlowa_issuer_key(const uint8_t *policy, size_t policy_leng
                                        const uint8_t *root, size_t root_length);
 
 /*
+ * The same with the accounts of a roster. Keys follow the plan's tree, so a roster with other counts can give another key: keys,
+ * envelopes and sealed files belong together only if policy, counts and root secret are the same.
+ *
+ * Takes    a policy file, a roster file, the label's name (8 bytes, padded with spaces), and the root secret (32 bytes).
+ * Gives    the key.
+ * Refuses  as `yendlowa_read_roster` does; then 13 and 15.
+ */
+yendlowa_label_key yendlowa_issuer_key_roster(const uint8_t *policy, size_t policy_length, const uint8_t *roster, size_t roster_length,
+                                              const uint8_t *name, size_t name_length, const uint8_t *root, size_t root_length);
+
+/*
  * The key envelope of an account.
  *
  * Takes    a policy file, the name of the account's label (8 bytes, padded with spaces), the account's number (1 to the label's
@@ -215,6 +364,19 @@ yendlowa_label_key yendlowa_issuer_key(const uint8_t *policy, size_t policy_leng
  */
 yendlowa_written yendlowa_issue(const uint8_t *policy, size_t policy_length, const uint8_t *name, size_t name_length,
                                 uint32_t account, const uint8_t *root, size_t root_length, uint8_t *out, size_t out_length);
+
+/*
+ * The key envelope of an account of a roster. It carries the number that the account has there.
+ *
+ * Takes    a policy file, a roster file, the name of the account's label (8 bytes, padded with spaces), the account's number, the root
+ *          secret (32 bytes), and a buffer; YENDLOWA_ENVELOPE_ROOM bytes always suffice.
+ * Gives    the length of the envelope, which starts at the buffer's start.
+ * Refuses  as `yendlowa_read_roster` does; then 13, 14 (the account does not stand on this label), 26 (it does, and is held), 15 and
+ *          16.
+ */
+yendlowa_written yendlowa_issue_roster(const uint8_t *policy, size_t policy_length, const uint8_t *roster, size_t roster_length,
+                                       const uint8_t *name, size_t name_length, uint32_t account,
+                                       const uint8_t *root, size_t root_length, uint8_t *out, size_t out_length);
 
 typedef struct yendlowa_root_fingerprint {
     uint8_t refusal;
@@ -254,6 +416,19 @@ yendlowa_root_fingerprint yendlowa_fingerprint(const uint8_t *root, size_t root_
 yendlowa_written yendlowa_seal(const uint8_t *policy, size_t policy_length, const uint8_t *name, size_t name_length,
                                const uint8_t *root, size_t root_length, const uint8_t *nonce, size_t nonce_length,
                                const uint8_t *text, size_t text_length, uint8_t *out, size_t out_length);
+
+/*
+ * The same under the label's key with the accounts of a roster, as `yendlowa_issuer_key_roster` gives it. WHAT IS SAID OF NONCES ABOVE
+ * HOLDS HERE TOO, with one counter for both functions.
+ *
+ * Takes    a policy file, a roster file, and all that `yendlowa_seal` takes beside the policy.
+ * Gives    the length of the sealed file, which starts at the buffer's start; no byte after it is touched.
+ * Refuses  as `yendlowa_read_roster` does; then 13, 15, 22 and 16, as `yendlowa_seal` does. The buffer is then unchanged.
+ */
+yendlowa_written yendlowa_seal_roster(const uint8_t *policy, size_t policy_length, const uint8_t *roster, size_t roster_length,
+                                      const uint8_t *name, size_t name_length, const uint8_t *root, size_t root_length,
+                                      const uint8_t *nonce, size_t nonce_length, const uint8_t *text, size_t text_length,
+                                      uint8_t *out, size_t out_length);
 
 /* ---- hash ---- */
 

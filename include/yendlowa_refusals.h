@@ -4,8 +4,9 @@
  *
  * Every answer that can be a refusal starts with its number, which is 0 when nothing is refused. With a refusal every other number
  * of the answer is 0, every bool is false, a key or digest is all zeros, and a lent buffer is unchanged. Each function lists the
- * numbers that it can give, in the order of its checks: the first check that fails decides. The two functions that say where
- * reading stops (`yendlowa_policy_records`, `yendlowa_envelope_records`) and `yendlowa_refusal_text` refuse nothing.
+ * numbers that it can give, in the order of its checks: the first check that fails decides. The three functions that say where
+ * reading stops (`yendlowa_policy_records`, `yendlowa_roster_records`, `yendlowa_envelope_records`) and `yendlowa_refusal_text` refuse
+ * nothing.
  *
  * No answer has padding. Where the fields alone would leave a gap, a field `zeros` fills it, and its bytes are always 0.
  *
@@ -45,7 +46,7 @@ extern "C" {
 enum yendlowa_refusal {
     YENDLOWA_ACCEPTED = 0,         /* not refused */
 
-    /* policy file; 2, 3, 5, 6 and 7 are given for envelopes too, and 2 for tree files */
+    /* policy file; 2, 3, 5, 6 and 7 are given for envelopes too, 2 and 3 for rosters, and 2 for tree files */
     YENDLOWA_EMPTY = 1,            /* the policy file is empty */
     YENDLOWA_BAD_MARK = 2,         /* fewer than 2 bytes are left, or the mark does not belong in this file */
     YENDLOWA_CUT_SHORT = 3,        /* a record is cut short */
@@ -61,9 +62,10 @@ enum yendlowa_refusal {
     YENDLOWA_TREE_LENGTH = 11,     /* the length is not 2 plus the number of labels */
     YENDLOWA_TREE_PARENT = 12,     /* a byte is not the number of a strictly higher label, or the top's byte is not 0 */
 
-    /* what else is passed to a call */
+    /* what else is passed to a call; 13 is given for the names in rosters too */
     YENDLOWA_UNKNOWN_LABEL = 13,   /* the policy has no label with this name (a name has exactly 8 bytes) */
-    YENDLOWA_NO_ACCOUNT = 14,      /* the account number is 0 or above the label's number of accounts */
+    YENDLOWA_NO_ACCOUNT = 14,      /* the label has no account with this number; with a roster: the
+                                      account does not stand on this label */
     YENDLOWA_ROOT_LENGTH = 15,     /* the root secret does not have 32 bytes */
     YENDLOWA_NO_ROOM = 16,         /* the lent buffer is too short for what is to be written */
 
@@ -79,7 +81,14 @@ enum yendlowa_refusal {
     /* sealed module file */
     YENDLOWA_NOT_SEALED = 22,      /* a sealed file has fewer than 38 or more than 32,806 bytes, or a mark other than SM; when
                                       sealing: the text has more than 32,768 bytes, or the nonce does not have 12 */
-    YENDLOWA_BAD_TAG = 23          /* the tag differs: the file was altered, or sealed under another key */
+    YENDLOWA_BAD_TAG = 23,         /* the tag differs: the file was altered, or sealed under another key */
+
+    /* roster file, after 2 and 3 and before 13 */
+    YENDLOWA_BAD_NUMBER = 24,      /* the number of a JN record is not 1 to 4,096, or an account has or had it */
+    YENDLOWA_NOT_ON_ROSTER = 25,   /* the account of another record is unknown or withdrawn */
+
+    /* issue by a roster, after 14 */
+    YENDLOWA_ACCOUNT_HELD = 26     /* the account is held */
 };
 
 typedef struct yendlowa_text {
@@ -90,7 +99,7 @@ typedef struct yendlowa_text {
  * The words of a refusal, in English and without a line feed: "the root secret does not have 32 bytes" for 15.
  *
  * Takes    any number.
- * Gives    its words; "accepted" for 0, and "no such refusal" above 23.
+ * Gives    its words; "accepted" for 0, and "no such refusal" above 26.
  * Refuses  nothing.
  */
 yendlowa_text yendlowa_refusal_text(uint8_t number);

@@ -36,7 +36,7 @@ words=(
     "the length is not 2 plus the number of labels"
     "a byte is not the number of a strictly higher label, or the top's is not 0"
     "the policy has no label with this name"
-    "the account number is 0 or above the label's number of accounts"
+    "the label has no account with this number"
     "the root secret does not have 32 bytes"
     "the buffer is too short for what is to be written"
     "the header has fewer than 12 bytes, a mark other than EN, or account 0"
@@ -46,6 +46,9 @@ words=(
     "a key or message has more than 65,536 bytes"
     "not a sealed file, a text above 32,768 bytes, or a nonce that is not 12 bytes"
     "the tag differs: the file was altered, or sealed under another key"
+    "the number is not 1 to 4,096, or an account has or had it"
+    "the account is unknown or withdrawn"
+    "the account is held"
 )
 
 # same NAME GIVEN WANTED: a case.

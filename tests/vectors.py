@@ -32,6 +32,7 @@ LIMIT = 65_536
 
 # The operations, as the program numbers them.
 DIGEST, MAC, POLICY, PLAN, TREE, KEY, ENVELOPE, DERIVED, BLOCK, ONE_TIME, ENCRYPTED, TAG, SEALED, MODULE, OPENED = range(15)
+ROSTER_POLICY, ROSTER_PLAN, ROSTER_TREE, ROSTER_KEY, ROSTER_ENVELOPE, ROSTER_MODULE = range(15, 21)
 
 cases = []
 answers = []
@@ -179,25 +180,25 @@ def applied(secret, name):
     return hmac.new(secret, padded(name), "sha256").digest()
 
 
-def secret_of(name):
-    return applied(secret_of(PARENTS[name]), name) if name in PARENTS else ROOT
+def secret_of(name, parents=PARENTS):
+    return applied(secret_of(parents[name], parents), name) if name in parents else ROOT
 
 
-def key_of(name):
-    return applied(secret_of(name), name)
+def key_of(name, parents=PARENTS):
+    return applied(secret_of(name, parents), name)
 
 
-def held(label):
-    return [name for name in BELOW[label] if PARENTS.get(name) not in BELOW[label]]
+def held(label, parents=PARENTS):
+    return [name for name in BELOW[label] if parents.get(name) not in BELOW[label]]
 
 
-def envelope(label, account):
+def envelope(label, account, parents=PARENTS):
     records = b""
     for name in BELOW[label]:
-        if name in held(label):
-            records += b"KS" + padded(name) + secret_of(name)
+        if name in held(label, parents):
+            records += b"KS" + padded(name) + secret_of(name, parents)
         else:
-            records += b"KD" + padded(name) + bytes([BELOW[label].index(PARENTS[name])])
+            records += b"KD" + padded(name) + bytes([BELOW[label].index(parents[name])])
     return b"EN" + account.to_bytes(2, "big") + padded(label) + records
 
 
@@ -401,10 +402,10 @@ sealed(
 )
 
 
-def module(label, nonce, text):
+def module(label, nonce, text, parents=PARENTS):
     """The sealed file of a text."""
     head = b"SM" + padded(label)
-    return head + nonce + ChaCha20Poly1305(key_of(label)).encrypt(nonce, text, head)
+    return head + nonce + ChaCha20Poly1305(key_of(label, parents)).encrypt(nonce, text, head)
 
 
 def told(content):
@@ -436,6 +437,77 @@ for name, operation, files, answer in (
     ("37 bytes opened, no envelope", OPENED, (b"", FILE[:37], b"", b""), 17),
 ):
     case(name, operation, f"REFUSED {answer}", files)
+
+# A roster of E, worked by hand from document 02, Ask 4: 1 is on SUITE, 2 is held on CURVES, 3 is withdrawn. By these accounts ACCRUED hangs from CURVES,
+# where it weighs nothing; by those in E it hangs from CONV32.
+def join(account, name):
+    return b"JN" + number(account) + padded(name)
+
+
+def move(account, name):
+    return b"MV" + number(account) + padded(name)
+
+
+def hold(account):
+    return b"HD" + number(account)
+
+
+def withdraw(account):
+    return b"WD" + number(account)
+
+
+WORKED = join(1, "SUITE") + join(2, "CONV32") + move(2, "CURVES") + hold(2) + join(3, "ACCRUED") + withdraw(3)
+COUNTED = label("SUITE", 1) + label("CURVES", 1) + label("CONV32", 0) + label("ACCRUED", 0) + E[-16:]
+for name, records, room, answer in (
+    ("E with the worked roster's counts", WORKED, len(COUNTED), told(COUNTED)),
+    ("E with the worked roster's counts, a byte too few", WORKED, len(COUNTED) - 1, "REFUSED 16"),
+    ("E with the worked roster's counts, a refused record and no buffer", WORKED + hold(3), 0, "REFUSED 25"),
+):
+    case(name, ROSTER_POLICY, answer, (E, records, b"", b"a" * room))
+
+for name, records, answer in (
+    ("plan of E with the worked roster", WORKED, "0 1 1, 0 1 1, 0 0 2, 1 0 1, total 2"),
+    ("plan of E with an empty roster", b"", "0 0 1, 0 0 2, 0 0 1, 2 0 1, total 0"),
+    ("plan of E with a refused roster", WORKED + hold(3), "REFUSED 25"),
+):
+    case(name, ROSTER_PLAN, answer, (E, records))
+for name, records, tree, answer in (
+    ("E with the worked roster under 0,0,0,1", WORKED, b"TR\0\0\0\1", "2, least"),
+    ("E with the worked roster under 0,0,0,2", WORKED, b"TR\0\0\0\2", "3, not least"),
+    ("E with the worked roster under 0,0,0,3", WORKED, b"TR\0\0\0\3", "REFUSED 12"),
+    ("E with a refused roster and an empty tree file", WORKED + hold(3), b"", "REFUSED 25"),
+):
+    case(name, ROSTER_TREE, answer, (E, records, tree))
+
+ROSTER_PARENTS = PARENTS | {"ACCRUED": "CURVES"}
+for name in NAMES:
+    case(f"key of {name} with the worked roster", ROSTER_KEY, key_of(name, ROSTER_PARENTS).hex(), (E, WORKED, padded(name) + ROOT))
+case("key of RATES with the worked roster", ROSTER_KEY, "REFUSED 13", (E, WORKED, padded("RATES") + ROOT[1:]))
+case("key of SUITE with the worked roster, root of 31 bytes", ROSTER_KEY, "REFUSED 15", (E, WORKED, padded("SUITE") + ROOT[1:]))
+
+MORE = WORKED + join(4, "CURVES") + join(4096, "CURVES")
+for asked, account, length in (("SUITE", 1, 87), ("CURVES", 4, 65), ("CURVES", 4096, 65)):
+    made = envelope(asked, account, ROSTER_PARENTS)
+    if len(made) != length:
+        raise SystemExit(f"{asked}, account {account}: {len(made)} bytes, not {length}")
+    case(f"the roster's account {account} on {asked}", ROSTER_ENVELOPE, f"{length} bytes, {made.hex()}", (E, MORE, padded(asked) + ROOT, bytes(length)), account)
+for name, asked, account, root, room, answer in (
+    ("the roster's account 2 on CURVES, which is held, no root", "CURVES", 2, b"", 65, 26),
+    ("the roster's account 2 on SUITE", "SUITE", 2, ROOT, 87, 14),
+    ("the roster's account 3 on ACCRUED, which is withdrawn", "ACCRUED", 3, ROOT, 54, 14),
+    ("the roster's account 5 on CURVES, which is unknown", "CURVES", 5, ROOT, 65, 14),
+    ("the roster's account 4 on RATES", "RATES", 4, ROOT, 65, 13),
+    ("the roster's account 4 on CURVES, root of 31 bytes", "CURVES", 4, ROOT[1:], 64, 15),
+    ("the roster's account 4 on CURVES, 64 bytes", "CURVES", 4, ROOT, 64, 16),
+):
+    case(name, ROSTER_ENVELOPE, f"REFUSED {answer}", (E, MORE, padded(asked) + root, bytes(room)), account)
+
+for name, records, asked, answer in (
+    ("ACCRUED sealed with the worked roster", WORKED, ASKED, told(module("ACCRUED", NONCE_3, TEXT, ROSTER_PARENTS))),
+    ("ACCRUED sealed with a refused roster", WORKED + hold(3), ASKED, "REFUSED 25"),
+    ("RATES sealed with the worked roster", WORKED, padded("RATES") + ASKED[8:], "REFUSED 13"),
+):
+    case(name, ROSTER_MODULE, answer, (E, records, asked + TEXT, b"a" * (len(TEXT) + 38)))
 
 program = pathlib.Path(__file__).parent.parent / "crates/vectors"
 (program / "stdin").write_bytes(number(len(cases)) + b"".join(cases))

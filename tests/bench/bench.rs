@@ -20,10 +20,11 @@ mod plan;
 #[path = "../compare/policy.rs"]
 mod policy;
 mod policies;
+mod rosters;
 mod sealing;
 mod yardsticks;
 
-use policies::{chain, deep, full, growing, two_layers};
+use policies::{chain, deep, full, growing, roster, two_layers};
 
 const ROUNDS: usize = 61;
 
@@ -149,6 +150,24 @@ fn issuer_rows() {
     row("fingerprint", two(|| ours::fingerprint(root), || hash::fingerprint(root)));
 }
 
+/// A roster of 4,096 joins and as many moves; the envelope goes to an account that is on the last label.
+fn roster_rows() {
+    let ((policy, _), file) = (full(), roster());
+    let (policy, file) = (black_box(&policy[..]), black_box(&file[..]));
+    let (root, name) = (black_box(&ROOT), black_box(b"MODULE63"));
+    let read = two(|| ours::read_roster(policy, file), || rosters::read_roster(policy, file));
+    row("read_roster, 4,096 joins, 4,096 moves", read);
+    row("plan_roster, the same", two(|| ours::plan_roster(policy, file), || rosters::plan_roster(policy, file)));
+    let read = rosters::read_roster(policy, file);
+    let account = 1 + read.places.iter().position(|place| *place == 63).unwrap() as u32;
+    let (mut our_buffer, mut buffer) = ([0; 2700], [0; 2700]);
+    let ours = || ours::issue_roster(policy, file, name, account, root, &mut our_buffer);
+    let plain = || rosters::issue_roster(policy, file, name, account, root, &mut buffer);
+    row("issue_roster, the same, to the last label", two(ours, plain));
+    assert_eq!(our_buffer, buffer, "issue_roster: the buffers differ");
+    assert_eq!(envelope::secrets(&buffer[..54]), 1);
+}
+
 fn derive_row(what: &str, envelope: &[u8], name: &[u8], applications: u8) {
     assert_eq!(envelope::derive(envelope, name).applications, applications);
     let (envelope, name) = (black_box(envelope), black_box(name));
@@ -232,6 +251,7 @@ fn main() {
     hash_rows();
     policy_rows();
     issuer_rows();
+    roster_rows();
     desk_rows();
     sealed_rows();
 }

@@ -14,13 +14,16 @@ struct Issuer {
 
 impl Issuer {
     fn new(file: &[u8]) -> Result<Issuer, u8> {
-        let policy = plan::read(file)?;
+        plan::read(file).map(Issuer::of)
+    }
+
+    fn of(policy: Policy) -> Issuer {
         let rows = plan::order(&policy);
         let mut parents = [0; 64];
         for label in 1..policy.labels {
             parents[label] = plan::best_parent(&policy, &rows, label).0;
         }
-        Ok(Issuer { policy, rows, parents })
+        Issuer { policy, rows, parents }
     }
 
     /// Whether an account at the label holds the secret of `lower`, a label at or below it.
@@ -73,28 +76,44 @@ impl Issuer {
 }
 
 fn issued(file: &[u8], name: &[u8], account: u32, root: &[u8], envelope: &mut [u8]) -> Result<usize, u8> {
-    let issuer = Issuer::new(file)?;
-    let label = issuer.label(name)?;
-    if account == 0 || account > issuer.policy.counts[label] {
+    let policy = plan::read(file)?;
+    let label = policy.names.iter().position(|other| other == name).ok_or(13)?;
+    if account == 0 || account > policy.counts[label] {
         return Err(14);
     }
+    written(policy, label, account, root, envelope)
+}
+
+/// The envelope of an account that is at the label.
+pub fn written(
+    policy: Policy,
+    label: usize,
+    account: u32,
+    root: &[u8],
+    envelope: &mut [u8],
+) -> Result<usize, u8> {
     let root = root.try_into().map_err(|_| 15)?;
+    let issuer = Issuer::of(policy);
     let length = issuer.length(label);
     if envelope.len() < length {
         return Err(16);
     }
     envelope[..2].copy_from_slice(b"EN");
     envelope[2..4].copy_from_slice(&(account as u16).to_be_bytes());
-    envelope[4..12].copy_from_slice(name);
+    envelope[4..12].copy_from_slice(&issuer.policy.names[label]);
     issuer.write(label, root, envelope);
     Ok(length)
 }
 
-pub fn issue(file: &[u8], name: &[u8], account: u32, root: &[u8], envelope: &mut [u8]) -> Written {
-    match issued(file, name, account, root, envelope) {
+pub fn answer(written: Result<usize, u8>) -> Written {
+    match written {
         Ok(length) => Written { refusal: 0, zeros: [0; 7], length },
         Err(refusal) => Written { refusal, zeros: [0; 7], length: 0 },
     }
+}
+
+pub fn issue(file: &[u8], name: &[u8], account: u32, root: &[u8], envelope: &mut [u8]) -> Written {
+    answer(issued(file, name, account, root, envelope))
 }
 
 fn key(file: &[u8], name: &[u8], root: &[u8]) -> Result<[u8; 32], u8> {

@@ -58,6 +58,42 @@ pub fn issue(policy: &[u8], name: &[u8], account: u32, root: &[u8], envelope: &m
     unsafe { yendlowa_issue(policy, length, name, name_length, account, root, root_length, into, room) }
 }
 
+pub fn read_roster(policy: &[u8], roster: &[u8]) -> Roster {
+    unsafe { yendlowa_read_roster(policy.as_ptr(), policy.len(), roster.as_ptr(), roster.len()) }
+}
+
+pub fn plan_roster(policy: &[u8], roster: &[u8]) -> Plan {
+    unsafe { yendlowa_plan_roster(policy.as_ptr(), policy.len(), roster.as_ptr(), roster.len()) }
+}
+
+pub fn issue_roster(
+    policy: &[u8],
+    roster: &[u8],
+    name: &[u8],
+    account: u32,
+    root: &[u8],
+    out: &mut [u8],
+) -> Written {
+    let (policy, length, roster, roster_length) = (policy.as_ptr(), policy.len(), roster.as_ptr(), roster.len());
+    let (name, name_length, root, root_length) = (name.as_ptr(), name.len(), root.as_ptr(), root.len());
+    let (into, room) = (out.as_mut_ptr(), out.len());
+    unsafe {
+        yendlowa_issue_roster(
+            policy,
+            length,
+            roster,
+            roster_length,
+            name,
+            name_length,
+            account,
+            root,
+            root_length,
+            into,
+            room,
+        )
+    }
+}
+
 pub fn fingerprint(root: &[u8]) -> RootFingerprint {
     unsafe { yendlowa_fingerprint(root.as_ptr(), root.len()) }
 }

@@ -126,7 +126,11 @@ const NO_PLAN: Plan =
     Plan { refusal: 0, zeros: [0; 3], total: 0, labels: 0, parents: [0; 64], weights: [0; 64], sizes: [0; 64] };
 
 pub fn plan(file: &[u8]) -> Plan {
-    read(file).map_or_else(|refusal| Plan { refusal, ..NO_PLAN }, |policy| planned(&policy))
+    of(read(file))
+}
+
+pub fn of(read: Result<Policy, u8>) -> Plan {
+    read.map_or_else(|refusal| Plan { refusal, ..NO_PLAN }, |policy| planned(&policy))
 }
 
 fn planned(policy: &Policy) -> Plan {

@@ -1,4 +1,4 @@
-//! Policy files to measure on.
+//! Policy files, and a roster file, to measure on.
 
 /// A linear congruential generator.
 fn generator() -> impl FnMut(usize) -> usize {
@@ -78,4 +78,15 @@ pub fn deep() -> Vec<u8> {
 /// Each label below the one before it.
 pub fn chain() -> Vec<u8> {
     numbered((1..64).map(|lower| (lower - 1, lower)))
+}
+
+/// 4,096 accounts that join labels of `full`, and a move of each to another label.
+pub fn roster() -> Vec<u8> {
+    let mut below = generator();
+    let mut record = |mark: &str, number: u16| {
+        [mark.as_bytes(), &number.to_be_bytes(), format!("MODULE{:02}", below(64)).as_bytes()].concat()
+    };
+    let joins: Vec<u8> = (1..=4096).flat_map(|number| record("JN", number)).collect();
+    let moves: Vec<u8> = (1..=4096).flat_map(|number| record("MV", number)).collect();
+    [joins, moves].concat()
 }

@@ -18,12 +18,17 @@ void *read_into(void *answer, at policy, size_t length) __asm__("yendlowa_read_p
 void *order_into(void *answer, at policy, size_t length) __asm__("yendlowa_order");
 void *plan_into(void *answer, at policy, size_t length) __asm__("yendlowa_plan");
 void *growth_into(void *answer, at policy, size_t length) __asm__("yendlowa_growth");
+void *roster_into(void *answer, at policy, size_t length, at roster, size_t roster_length) __asm__("yendlowa_read_roster");
+void *plan_roster_into(void *answer, at policy, size_t length, at roster, size_t roster_length) __asm__("yendlowa_plan_roster");
+void *growth_roster_into(void *answer, at policy, size_t length, at roster, size_t roster_length) __asm__("yendlowa_growth_roster");
+void *key_roster_into(void *answer, at policy, size_t length, at roster, size_t roster_length, at name, size_t name_length, at root,
+                      size_t root_length) __asm__("yendlowa_issuer_key_roster");
 void *key_into(void *answer, at policy, size_t length, at name, size_t name_length, at root, size_t root_length)
     __asm__("yendlowa_issuer_key");
 void *derive_into(void *answer, at envelope, size_t length, at name, size_t name_length) __asm__("yendlowa_derive");
 void *labels_into(void *answer, at envelope, size_t length) __asm__("yendlowa_labels");
 
-/* One call on up to five inputs. Those that lend a buffer lend always the same one. */
+/* One call on up to six inputs. Those that lend a buffer lend always the same one. */
 typedef void call(void *answer, const bytes in[INPUTS]);
 static uint8_t out[YENDLOWA_DRAWING_ROOM];
 
@@ -93,6 +98,56 @@ static void derive(void *answer, const bytes *in)
 }
 static void labels(void *answer, const bytes *in) { check(labels_into(answer, in[0].at, in[0].length) == answer); }
 
+#define BOTH in[0].at, in[0].length, in[1].at, in[1].length
+static void read_roster(void *answer, const bytes *in) { check(roster_into(answer, BOTH) == answer); }
+static void plan_roster(void *answer, const bytes *in) { check(plan_roster_into(answer, BOTH) == answer); }
+static void growth_roster(void *answer, const bytes *in) { check(growth_roster_into(answer, BOTH) == answer); }
+static void key_roster(void *answer, const bytes *in)
+{
+    check(key_roster_into(answer, BOTH, in[2].at, in[2].length, in[3].at, in[3].length) == answer);
+}
+static void weigh_roster(void *answer, const bytes *in)
+{
+    yendlowa_weighed w = yendlowa_weigh_roster(BOTH, in[2].at, in[2].length);
+    memcpy(answer, &w, sizeof w);
+}
+static void roster_text(void *answer, const bytes *in)
+{
+    yendlowa_written w = yendlowa_roster_text(BOTH, out, sizeof out);
+    memcpy(answer, &w, sizeof w);
+}
+static void count_policy(void *answer, const bytes *in)
+{
+    yendlowa_written w = yendlowa_count_policy(BOTH, out, sizeof out);
+    memcpy(answer, &w, sizeof w);
+}
+static void plan_text_roster(void *answer, const bytes *in)
+{
+    yendlowa_written w = yendlowa_plan_text_roster(BOTH, out, sizeof out);
+    memcpy(answer, &w, sizeof w);
+}
+static void plan_dot_roster(void *answer, const bytes *in)
+{
+    yendlowa_written w = yendlowa_plan_dot_roster(BOTH, out, sizeof out);
+    memcpy(answer, &w, sizeof w);
+}
+static void growth_text_roster(void *answer, const bytes *in)
+{
+    yendlowa_written w = yendlowa_growth_text_roster(BOTH, out, sizeof out);
+    memcpy(answer, &w, sizeof w);
+}
+static void issue_roster(void *answer, const bytes *in)
+{
+    yendlowa_written w = yendlowa_issue_roster(BOTH, in[2].at, in[2].length, 1, in[3].at, in[3].length, out, sizeof out);
+    memcpy(answer, &w, sizeof w);
+}
+static void seal_roster(void *answer, const bytes *in)
+{
+    yendlowa_written w = yendlowa_seal_roster(BOTH, in[2].at, in[2].length, in[3].at, in[3].length, in[4].at, in[4].length,
+                                              in[5].at, in[5].length, out, sizeof out);
+    memcpy(answer, &w, sizeof w);
+}
+
 #define ENVELOPE "EN\0\5CONV32  " "KSCONV32  " ROOT "KDACCRUED \0"
 #define NAME "CONV32  "
 
@@ -120,6 +175,31 @@ static const struct {
     {growth_of, sizeof(yendlowa_grown), YENDLOWA_NOT_ABOVE, {TEXT(E "OV\3\3")}},
     {growth_text, sizeof(yendlowa_written), YENDLOWA_ACCEPTED, {TEXT(E)}},
     {growth_text, sizeof(yendlowa_written), YENDLOWA_NOT_ABOVE, {TEXT(E "OV\3\3")}},
+    {read_roster, sizeof(yendlowa_roster), YENDLOWA_ACCEPTED, {TEXT(E), TEXT(WORKED)}},
+    {read_roster, sizeof(yendlowa_roster), YENDLOWA_NOT_ON_ROSTER, {TEXT(E), TEXT(WORKED "HD\0\3")}},
+    {read_roster, sizeof(yendlowa_roster), YENDLOWA_NOT_ABOVE, {TEXT(E "OV\3\3"), TEXT(WORKED)}},
+    {plan_roster, sizeof(yendlowa_planned), YENDLOWA_ACCEPTED, {TEXT(E), TEXT(WORKED)}},
+    {plan_roster, sizeof(yendlowa_planned), YENDLOWA_NOT_ON_ROSTER, {TEXT(E), TEXT(WORKED "HD\0\3")}},
+    {growth_roster, sizeof(yendlowa_grown), YENDLOWA_ACCEPTED, {TEXT(E), TEXT(WORKED)}},
+    {growth_roster, sizeof(yendlowa_grown), YENDLOWA_NOT_ON_ROSTER, {TEXT(E), TEXT(WORKED "HD\0\3")}},
+    {roster_text, sizeof(yendlowa_written), YENDLOWA_ACCEPTED, {TEXT(E), TEXT(WORKED)}},
+    {roster_text, sizeof(yendlowa_written), YENDLOWA_NOT_ON_ROSTER, {TEXT(E), TEXT(WORKED "HD\0\3")}},
+    {count_policy, sizeof(yendlowa_written), YENDLOWA_ACCEPTED, {TEXT(E), TEXT(WORKED)}},
+    {count_policy, sizeof(yendlowa_written), YENDLOWA_NOT_ON_ROSTER, {TEXT(E), TEXT(WORKED "HD\0\3")}},
+    {plan_text_roster, sizeof(yendlowa_written), YENDLOWA_ACCEPTED, {TEXT(E), TEXT(WORKED)}},
+    {plan_text_roster, sizeof(yendlowa_written), YENDLOWA_NOT_ON_ROSTER, {TEXT(E), TEXT(WORKED "HD\0\3")}},
+    {plan_dot_roster, sizeof(yendlowa_written), YENDLOWA_ACCEPTED, {TEXT(E), TEXT(WORKED)}},
+    {plan_dot_roster, sizeof(yendlowa_written), YENDLOWA_NOT_ON_ROSTER, {TEXT(E), TEXT(WORKED "HD\0\3")}},
+    {growth_text_roster, sizeof(yendlowa_written), YENDLOWA_ACCEPTED, {TEXT(E), TEXT(WORKED)}},
+    {growth_text_roster, sizeof(yendlowa_written), YENDLOWA_NOT_ON_ROSTER, {TEXT(E), TEXT(WORKED "HD\0\3")}},
+    {weigh_roster, sizeof(yendlowa_weighed), YENDLOWA_ACCEPTED, {TEXT(E), TEXT(WORKED), TEXT("TR\0\0\0\2")}},
+    {weigh_roster, sizeof(yendlowa_weighed), YENDLOWA_TREE_PARENT, {TEXT(E), TEXT(WORKED), TEXT("TR\0\0\1\2")}},
+    {key_roster, sizeof(yendlowa_label_key), YENDLOWA_ACCEPTED, {TEXT(E), TEXT(WORKED), TEXT(NAME), TEXT(ROOT)}},
+    {key_roster, sizeof(yendlowa_label_key), YENDLOWA_ROOT_LENGTH, {TEXT(E), TEXT(WORKED), TEXT(NAME), TEXT("")}},
+    {issue_roster, sizeof(yendlowa_written), YENDLOWA_ACCEPTED, {TEXT(E), TEXT(WORKED), TEXT("SUITE   "), TEXT(ROOT)}},
+    {issue_roster, sizeof(yendlowa_written), YENDLOWA_ACCOUNT_HELD, {TEXT(E), TEXT(WORKED "HD\0\1"), TEXT("SUITE   "), TEXT(ROOT)}},
+    {seal_roster, sizeof(yendlowa_written), YENDLOWA_ACCEPTED, {TEXT(E), TEXT(WORKED), TEXT(NAME), TEXT(ROOT), TEXT(NONCE), TEXT("abc")}},
+    {seal_roster, sizeof(yendlowa_written), YENDLOWA_NOT_SEALED, {TEXT(E), TEXT(WORKED), TEXT(NAME), TEXT(ROOT), TEXT(""), TEXT("abc")}},
     {pad_name, sizeof(yendlowa_written), YENDLOWA_ACCEPTED, {TEXT("CONV32")}},
     {issue, sizeof(yendlowa_written), YENDLOWA_ACCEPTED, {TEXT(E), TEXT(NAME), TEXT(ROOT)}},
     {issue, sizeof(yendlowa_written), YENDLOWA_ROOT_LENGTH, {TEXT(E), TEXT(NAME), TEXT("")}},
@@ -140,8 +220,9 @@ static const struct {
 /* Fills the stack below the caller, which the next call will use. */
 __attribute__((noinline)) static void fill_stack(uint8_t byte)
 {
-    volatile uint8_t below[32 * 1024];
-    for (size_t i = 0; i < sizeof below; i++) below[i] = byte;
+    uint8_t below[256 * 1024];
+    memset(below, byte, sizeof below);
+    __asm__ volatile("" : : "r"(below) : "memory");
 }
 
 /* Has a library work with secrets that this byte names, and leave them on the stack. */
@@ -157,7 +238,7 @@ static void work_with_secrets(uint8_t byte)
     check(k.refusal == YENDLOWA_ACCEPTED && memcmp(d.key, k.key, sizeof k.key) == 0);
 }
 
-enum { BESIDE = 64, ROOM = 4200 };
+enum { BESIDE = 64, ROOM = 8400 };
 
 /* An answer in memory that held this byte, after secrets that it names; what stands beside the answer stays. */
 static uint8_t *answered(size_t i, const bytes *in, uint8_t byte, bool secrets)

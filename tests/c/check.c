@@ -5,7 +5,7 @@
 #include <string.h>
 #include <sys/mman.h>
 
-enum { PAGE = 4096, ROOM = 20 * PAGE };
+enum { PAGE = 4096, ROOM = 26 * PAGE };
 
 enum side side;
 static const char *open_group;

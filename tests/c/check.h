@@ -33,7 +33,7 @@ enum side { AT_THE_END, AT_THE_START, NULL_IF_EMPTY, SIDES };
 extern enum side side;
 
 /* A copy of the bytes in one of the places for inputs. */
-enum { INPUTS = 5 };
+enum { INPUTS = 6 };
 bytes input(int place, bytes from);
 
 /* A buffer to lend, and whether the bytes written stand at its start while the rest of it, and what is before and after it, is unchanged. */

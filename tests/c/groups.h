@@ -13,6 +13,9 @@
 #define NONCE "\0\0\0\0\0\0\0\0\0\0\0\1"
 #define SEALED "SMCONV32  " NONCE "\346\363\167" "\151\371\172\361\075\211\212\264\111\305\372\306\100\153\226\224"
 
+/* a roster of E: 1 joins SUITE, 2 joins CONV32, moves to CURVES and is held, 3 joins ACCRUED and is withdrawn */
+#define WORKED "JN\0\1SUITE   " "JN\0\2CONV32  " "MV\0\2CURVES  " "HD\0\2" "JN\0\3ACCRUED " "WD\0\3"
+
 /* 64 labels and 512 pairs, with the text of its plan and that of what one more account costs; the drawing of E */
 #define FULL_POLICY "tests/plan/full.policy"
 #define FULL_TEXT "tests/plan/full.txt"
@@ -23,6 +26,7 @@ void hashes(void);
 void policies(void);
 void plans(void);
 void growth(void);
+void rosters(void);
 void texts(void);
 void issuing(void);
 void fingerprints(void);
@@ -32,5 +36,6 @@ void sealing(void);
 void rooms(void);
 void answers(void);
 void threads(void);
+void roster_threads(void);
 
 #endif

@@ -41,6 +41,15 @@ NEXT(yendlowa_rows, refusal, rows, 1);
 NEXT(yendlowa_rows, rows[0], rows[1], 65);
 LAST(yendlowa_rows, rows);
 
+SIZE(yendlowa_roster, 8336);
+FIRST(yendlowa_roster, refusal);
+NEXT(yendlowa_roster, refusal, zeros, 1);
+NEXT(yendlowa_roster, zeros, labels, 8);
+NEXT(yendlowa_roster, labels, counts, 16);
+NEXT(yendlowa_roster, counts, states, 144);
+NEXT(yendlowa_roster, states, places, 4240);
+LAST(yendlowa_roster, places);
+
 SIZE(yendlowa_planned, 400);
 FIRST(yendlowa_planned, refusal);
 NEXT(yendlowa_planned, refusal, zeros, 1);

@@ -18,9 +18,11 @@ int main(void)
     everywhere("fingerprints of root secrets", fingerprints);
     everywhere("envelopes read at the desk", deriving);
     everywhere("module files sealed and opened", sealing);
+    everywhere("rosters, and what their counts change", rosters);
     everywhere("the words of refusals, and names padded", names);
     everywhere("how much of a file decides", rooms);
     everywhere("every byte of an answer, whatever memory and stack held before", answers);
     everywhere("four threads at once", threads);
+    everywhere("four threads at once, with a roster of 4,096 accounts", roster_threads);
     return report();
 }

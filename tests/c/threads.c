@@ -1,4 +1,7 @@
-/* No function keeps anything between calls: four threads at once, each on 64 kB of stack, get what one alone gets. */
+/*
+ * No function keeps anything between calls: four threads at once get what one alone gets, each on the stack that the header asks for,
+ * 64 kB, or 256 kB with a roster.
+ */
 #include "groups.h"
 #include <pthread.h>
 #include <stdlib.h>
@@ -6,7 +9,7 @@
 #include <yendlowa_desk.h>
 #include <yendlowa_issuer.h>
 
-enum { THREADS = 4, TURNS = 100, STACK = 64 * 1024 };
+enum { THREADS = 4, TURNS = 100, STACK = 64 * 1024, ROSTER_TURNS = 4, ROSTER_STACK = 256 * 1024 };
 
 static const uint8_t *const e = (const uint8_t *)E, *const root = (const uint8_t *)ROOT;
 static const size_t e_length = sizeof E - 1;
@@ -64,16 +67,87 @@ static void *turns(void *account)
     return (void *)agreed;
 }
 
-void threads(void)
+/* 64 labels and 512 pairs, and a roster of 4,096 joins and as many moves back and forth; account n is on label n % 64 */
+static bytes full;
+static uint8_t roster[2 * 12 * YENDLOWA_ACCOUNTS];
+
+static void fill_roster(void)
+{
+    for (unsigned k = 0; k < 2 * YENDLOWA_ACCOUNTS; k++) {
+        unsigned number = k % YENDLOWA_ACCOUNTS + 1, label = k < YENDLOWA_ACCOUNTS ? number / 64 % 64 : number % 64;
+        uint8_t *record = roster + 12 * k;
+        memcpy(record, k < YENDLOWA_ACCOUNTS ? "JN" : "MV", 2);
+        record[2] = (uint8_t)(number >> 8);
+        record[3] = (uint8_t)number;
+        memcpy(record + 4, full.at + 12 * label + 2, YENDLOWA_NAME);
+    }
+}
+
+#define BOTH full.at, full.length, roster, sizeof roster
+
+/* Every function that takes a roster, once. What is written goes to memory of the thread's own that is not its stack. */
+static bool with_roster(uint8_t *memory, size_t room)
+{
+    static const uint8_t nonce[YENDLOWA_NONCE], tree[2 + YENDLOWA_LABELS] = "TR";
+    const uint8_t *name = full.at + 12 * 63 + 2;
+    yendlowa_planned plan = yendlowa_plan_roster(BOTH);
+    yendlowa_weighed flat = yendlowa_weigh_roster(BOTH, tree, sizeof tree);
+    yendlowa_label_key key = yendlowa_issuer_key_roster(BOTH, name, 8, root, 32);
+    yendlowa_written issued = yendlowa_issue_roster(BOTH, name, 8, 4095, root, 32, memory, room);
+    yendlowa_derived derived = yendlowa_derive(memory, issued.length, name, 8);
+    bool opens = issued.refusal == YENDLOWA_ACCEPTED && memory[2] * 256 + memory[3] == 4095
+                 && memcmp(derived.key, key.key, sizeof key.key) == 0;
+    yendlowa_written sealed = yendlowa_seal_roster(BOTH, name, 8, root, 32, nonce, sizeof nonce, e, e_length, memory, room);
+    return opens && sealed.length == e_length + YENDLOWA_SEALED_MORE && yendlowa_roster_records(BOTH) == 2 * YENDLOWA_ACCOUNTS
+           && flat.refusal == YENDLOWA_ACCEPTED && plan.total < flat.total && yendlowa_growth_roster(BOTH).costs[0] == 1
+           && yendlowa_roster_text(BOTH, memory, room).length > 70000 && yendlowa_count_policy(BOTH, memory, room).length == full.length
+           && yendlowa_plan_text_roster(BOTH, memory, room).refusal == YENDLOWA_ACCEPTED
+           && yendlowa_plan_dot_roster(BOTH, memory, room).refusal == YENDLOWA_ACCEPTED
+           && yendlowa_growth_text_roster(BOTH, memory, room).refusal == YENDLOWA_ACCEPTED;
+}
+
+/* the answer is not kept on the stack beside those of the others */
+__attribute__((noinline)) static bool roster_read(void)
+{
+    yendlowa_roster a = yendlowa_read_roster(BOTH);
+    return a.refusal == YENDLOWA_ACCEPTED && a.counts[0] == 64 && a.counts[63] == 64 && a.places[4094] == 63 && a.states[4095] == YENDLOWA_ACTIVE;
+}
+
+static void *roster_turns(void *unused)
+{
+    size_t agreed = 0;
+    uint8_t *memory = malloc(YENDLOWA_ROSTER_TEXT_ROOM);
+    (void)unused;
+    if (memory == NULL) return NULL;
+    for (int i = 0; i < ROSTER_TURNS; i++) agreed += roster_read() && with_roster(memory, YENDLOWA_ROSTER_TEXT_ROOM);
+    free(memory);
+    return (void *)agreed;
+}
+
+/* Every thread makes all its turns, on so much stack. */
+static void at_once(void *turn(void *), size_t stack, size_t turns_each)
 {
     pthread_t started[THREADS];
     pthread_attr_t small;
     uint32_t accounts[THREADS] = {1, 2, 1, 2};
-    check(pthread_attr_init(&small) == 0 && pthread_attr_setstacksize(&small, STACK) == 0);
-    for (int i = 0; i < THREADS; i++) check(pthread_create(&started[i], &small, turns, &accounts[i]) == 0);
-    for (int i = 0; i < THREADS; i++) {
+    check(pthread_attr_init(&small) == 0 && pthread_attr_setstacksize(&small, stack) == 0);
+    int running = 0;
+    while (running < THREADS && pthread_create(&started[running], &small, turn, &accounts[running]) == 0) running++;
+    check(running == THREADS);
+    for (int i = 0; i < running; i++) {
         void *agreed = NULL;
-        check(pthread_join(started[i], &agreed) == 0 && (size_t)agreed == TURNS);
+        check(pthread_join(started[i], &agreed) == 0 && (size_t)agreed == turns_each);
     }
     pthread_attr_destroy(&small);
+}
+
+void threads(void) { at_once(turns, STACK, TURNS); }
+
+void roster_threads(void)
+{
+    if (full.at == NULL) {
+        full = read_file(FULL_POLICY);
+        fill_roster();
+    }
+    at_once(roster_turns, ROSTER_STACK, ROSTER_TURNS);
 }

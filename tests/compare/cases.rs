@@ -2,6 +2,7 @@
 //! implementation. A seed names the cases. What is lent has bytes at random before the call, and so has the
 //! memory beside it; both are compared after it.
 
+use crate::accounts::{self, Way};
 use crate::deriving;
 use crate::envelope::{self, Envelope, Issuer};
 use crate::files;
@@ -9,11 +10,13 @@ use crate::fingerprints;
 use crate::group::{hex, Answers, Group, Hex};
 use crate::growth;
 use crate::issuing;
-use crate::ours;
+use crate::ours::{self, Files};
 use crate::plans::{self, Form};
 use crate::policy::{self, Policy};
 use crate::random::Random;
 use crate::records;
+use crate::rostering;
+use crate::rosters::{self, Both};
 use crate::sealing;
 use crate::sha256::Sha256;
 use crate::tree::{self, Planned};
@@ -36,11 +39,17 @@ const OF_TEXT: &[u8] = &[0, 1, 2, 3, 4, 5, 6, 7, 8, 9, 10, 16];
 const OF_KEY: &[u8] = &[0, 1, 2, 3, 4, 5, 6, 7, 8, 9, 10, 13, 15];
 const OF_ISSUE: &[u8] = &[0, 1, 2, 3, 4, 5, 6, 7, 8, 9, 10, 13, 14, 15, 16];
 const OF_SEAL: &[u8] = &[0, 1, 2, 3, 4, 5, 6, 7, 8, 9, 10, 13, 15, 16, 22];
+const OF_ROSTER: &[u8] = &[0, 1, 2, 3, 4, 5, 6, 7, 8, 9, 10, 13, 24, 25];
+const OF_ROSTER_TREE: &[u8] = &[0, 1, 2, 3, 4, 5, 6, 7, 8, 9, 10, 11, 12, 13, 24, 25];
+const OF_ROSTER_TEXT: &[u8] = &[0, 1, 2, 3, 4, 5, 6, 7, 8, 9, 10, 13, 16, 24, 25];
+const OF_ROSTER_KEY: &[u8] = &[0, 1, 2, 3, 4, 5, 6, 7, 8, 9, 10, 13, 15, 24, 25];
+const OF_ROSTER_ISSUE: &[u8] = &[0, 1, 2, 3, 4, 5, 6, 7, 8, 9, 10, 13, 14, 15, 16, 24, 25, 26];
+const OF_ROSTER_SEAL: &[u8] = &[0, 1, 2, 3, 4, 5, 6, 7, 8, 9, 10, 13, 15, 16, 22, 24, 25];
 const OF_ENVELOPE: &[u8] = &[0, 2, 3, 5, 6, 7, 17, 18, 19];
 const OF_DERIVE: &[u8] = &[0, 2, 3, 5, 6, 7, 17, 18, 19, 20];
 const OF_OPEN: &[u8] = &[0, 2, 3, 5, 6, 7, 16, 17, 18, 19, 20, 22, 23];
 
-const OPERATIONS: [Operation; 19] = [
+const OPERATIONS: [Operation; 32] = [
     Operation { name: "sha256", run: sha256, refusals: &[0, 21] },
     Operation { name: "hmac_sha256", run: hmac_sha256, refusals: &[0, 21] },
     Operation { name: "read_policy", run: read_policy, refusals: OF_POLICY },
@@ -60,12 +69,26 @@ const OPERATIONS: [Operation; 19] = [
     Operation { name: "labels", run: labels, refusals: OF_ENVELOPE },
     Operation { name: "envelope_records", run: envelope_records, refusals: OF_ENVELOPE },
     Operation { name: "open", run: open, refusals: OF_OPEN },
+    Operation { name: "read_roster", run: read_roster, refusals: OF_ROSTER },
+    Operation { name: "roster_records", run: roster_records, refusals: OF_ROSTER },
+    Operation { name: "roster_text", run: roster_text, refusals: OF_ROSTER_TEXT },
+    Operation { name: "count_policy", run: count_policy, refusals: OF_ROSTER_TEXT },
+    Operation { name: "plan_roster", run: plan_roster, refusals: OF_ROSTER },
+    Operation { name: "weigh_roster", run: weigh_roster, refusals: OF_ROSTER_TREE },
+    Operation { name: "plan_text_roster", run: plan_text_roster, refusals: OF_ROSTER_TEXT },
+    Operation { name: "plan_dot_roster", run: plan_dot_roster, refusals: OF_ROSTER_TEXT },
+    Operation { name: "growth_roster", run: growth_roster, refusals: OF_ROSTER },
+    Operation { name: "growth_text_roster", run: growth_text_roster, refusals: OF_ROSTER_TEXT },
+    Operation { name: "issuer_key_roster", run: issuer_key_roster, refusals: OF_ROSTER_KEY },
+    Operation { name: "issue_roster", run: issue_roster, refusals: OF_ROSTER_ISSUE },
+    Operation { name: "seal_roster", run: seal_roster, refusals: OF_ROSTER_SEAL },
 ];
 
 /// What one case works with.
 struct Case<'a> {
     random: &'a mut Random,
     hash: &'a Sha256,
+    ways: &'a [Way],
     place: &'a str,
     group: &'a mut Group,
     answers: &'a mut Answers,
@@ -448,9 +471,135 @@ fn open(case: &mut Case) {
     case.compare_written(second, room, input, |out| ours::open(&envelope, &file, out));
 }
 
+/// A policy and a roster for it, and what the second implementation reads of the two. The roster of a refused policy
+/// is one for another.
+fn two_files(case: &mut Case) -> (Vec<u8>, Vec<u8>, Result<Both, u8>) {
+    let file = policy_file(case);
+    let policy = policy::read(&file).unwrap_or_else(|_| files::any_policy(case.random));
+    let roster = match case.random.below(40) {
+        0 => no_file(case.random, case.hash),
+        1 => {
+            let whole = accounts::accepted(case.random, &policy, 9);
+            other_length(case.random, whole)
+        }
+        _ => accounts::any(case.random, &policy, case.ways),
+    };
+    let both = Both::read(&file, &roster);
+    (file, roster, both)
+}
+
+fn shown(files: Files) -> String {
+    format!("policy {}, roster {}", hex(files.policy), hex(files.roster))
+}
+
+/// What the second implementation answers, or the refusal of either file.
+fn with<T>(both: &Result<Both, u8>, ask: impl Fn(&Both) -> Result<T, u8>) -> Result<T, u8> {
+    both.as_ref().map_err(|number| *number).and_then(ask)
+}
+
+fn read_roster(case: &mut Case) {
+    let (policy, roster, both) = &two_files(case);
+    let (files, second) = (Files { policy, roster }, with(both, |both| Ok(both.counted())));
+    case.compare(refusal(&second), || shown(files), files.roster(), second);
+}
+
+fn roster_records(case: &mut Case) {
+    let (policy, roster, both) = &two_files(case);
+    let files = Files { policy, roster };
+    case.compare(refusal(both), || shown(files), files.records(), rosters::records_read(policy, roster));
+}
+
+fn written_roster(case: &mut Case, ours: fn(Files, &mut [u8]) -> Result<usize, u8>, second: fn(&Both) -> Vec<u8>) {
+    let (policy, roster, both) = &two_files(case);
+    let (files, text) = (Files { policy, roster }, with(both, |both| Ok(second(both))));
+    let room = room(case.random, text.as_ref().map_or(100, Vec::len));
+    case.compare_written(tree::into_room(text, room), room, || shown(files), |buffer| ours(files, buffer));
+}
+
+fn roster_text(case: &mut Case) {
+    written_roster(case, |files, out| files.text(out), Both::text);
+}
+
+fn count_policy(case: &mut Case) {
+    written_roster(case, |files, out| files.count_policy(out), Both::file);
+}
+
+fn plan_roster(case: &mut Case) {
+    let (policy, roster, both) = &two_files(case);
+    let (files, second) = (Files { policy, roster }, with(both, |both| Ok(both.plan())));
+    case.compare(refusal(&second), || shown(files), files.plan(), second);
+}
+
+fn weigh_roster(case: &mut Case) {
+    let (policy, roster, both) = &two_files(case);
+    let offered = match both {
+        Ok(both) => offered_tree(case.random, case.hash, &both.policy),
+        Err(_) => no_file(case.random, case.hash),
+    };
+    let (files, second) = (Files { policy, roster }, with(both, |both| both.weigh(&offered)));
+    let input = || format!("{}, tree {}", shown(files), hex(&offered));
+    case.compare(refusal(&second), input, files.weigh(&offered), second);
+}
+
+fn plan_text_roster(case: &mut Case) {
+    written_roster(case, |files, out| files.plan_text(out), Both::plan_text);
+}
+
+fn plan_dot_roster(case: &mut Case) {
+    written_roster(case, |files, out| files.plan_dot(out), Both::plan_dot);
+}
+
+fn growth_roster(case: &mut Case) {
+    let (policy, roster, both) = &two_files(case);
+    let (files, second) = (Files { policy, roster }, with(both, |both| Ok(both.growth())));
+    case.compare(refusal(&second), || shown(files), files.growth(), second);
+}
+
+fn growth_text_roster(case: &mut Case) {
+    written_roster(case, |files, out| files.growth_text(out), Both::growth_text);
+}
+
+/// A name and an account to ask a roster for.
+fn rosters_account(random: &mut Random, both: &Result<Both, u8>) -> (Vec<u8>, u32) {
+    match both {
+        Ok(both) => rostering::some_account(random, &both.policy, &both.roster),
+        Err(_) => (files::name(random).to_vec(), random.below(9) as u32),
+    }
+}
+
+fn issuer_key_roster(case: &mut Case) {
+    let (policy, roster, both) = &two_files(case);
+    let (name, root) = (rosters_account(case.random, both).0, root(case.random));
+    let (files, second) = (Files { policy, roster }, with(both, |both| both.key(case.hash, &name, &root)));
+    let input = || format!("{}, name {}, root {}", shown(files), hex(&name), hex(&root));
+    case.compare(refusal(&second), input, files.issuer_key(&name, &root), second);
+}
+
+fn issue_roster(case: &mut Case) {
+    let (policy, roster, both) = &two_files(case);
+    let ((name, account), root) = (rosters_account(case.random, both), root(case.random));
+    let (files, hash) = (Files { policy, roster }, case.hash);
+    let into = |room| with(both, |both| both.issue(hash, &name, account, &root, room));
+    let room = room(case.random, into(usize::MAX).map_or(100, |envelope| envelope.len()));
+    let input = || format!("{}, name {}, account {account}, root {}", shown(files), hex(&name), hex(&root));
+    case.compare_written(into(room), room, input, |out| files.issue(&name, account, &root, out));
+}
+
+fn seal_roster(case: &mut Case) {
+    let (policy, roster, both) = &two_files(case);
+    let (name, root) = (rosters_account(case.random, both).0, root(case.random));
+    let (nonce, text) = (nonce(case.random), text(case.random));
+    let room = room(case.random, text.len() + sealing::MORE);
+    let second = with(both, |both| both.seal(case.hash, &name, &root, &nonce, &text, room));
+    let (files, asked) = (Files { policy, roster }, [&name[..], &root, &nonce, &text]);
+    let input = || format!("{}, name, root, nonce, text {}", shown(files), asked.map(hex).join(", "));
+    case.compare_written(second, room, input, |out| files.seal(&name, &root, &nonce, &text, out));
+}
+
 /// The cases that were run, by operation.
 pub struct Cases<'a> {
     hash: &'a Sha256,
+    ways: Vec<Way>,
     groups: Vec<(Group, Answers)>,
     pub count: usize,
 }
@@ -458,7 +607,7 @@ pub struct Cases<'a> {
 impl<'a> Cases<'a> {
     pub fn new(hash: &'a Sha256) -> Cases<'a> {
         let group = |operation: &Operation| (Group::new(operation.name), Answers::default());
-        Cases { hash, groups: OPERATIONS.iter().map(group).collect(), count: 0 }
+        Cases { hash, ways: accounts::ways(), groups: OPERATIONS.iter().map(group).collect(), count: 0 }
     }
 
     pub fn differ(&self) -> bool {
@@ -475,7 +624,7 @@ impl<'a> Cases<'a> {
             let place = &format!("seed {seed}, case {number}");
             let chosen = random.below(OPERATIONS.len());
             let (group, answers) = &mut self.groups[chosen];
-            (OPERATIONS[chosen].run)(&mut Case { random, hash: self.hash, place, group, answers });
+            (OPERATIONS[chosen].run)(&mut Case { random, hash: self.hash, ways: &self.ways, place, group, answers });
             self.count += 1;
         }
     }

@@ -34,6 +34,17 @@ pub struct Rows {
 
 #[repr(C)]
 #[derive(Debug, PartialEq)]
+pub struct Roster {
+    pub refusal: u8,
+    pub zeros: [u8; 7],
+    pub labels: usize,
+    pub counts: [u16; 64],
+    pub states: [u8; 4096],
+    pub places: [u8; 4096],
+}
+
+#[repr(C)]
+#[derive(Debug, PartialEq)]
 pub struct Plan {
     pub refusal: u8,
     pub zeros: [u8; 3],
@@ -162,6 +173,117 @@ extern "C" {
     pub fn yendlowa_seal(
         policy: *const u8,
         policy_length: usize,
+        name: *const u8,
+        name_length: usize,
+        root: *const u8,
+        root_length: usize,
+        nonce: *const u8,
+        nonce_length: usize,
+        text: *const u8,
+        text_length: usize,
+        out: *mut u8,
+        out_length: usize,
+    ) -> Written;
+    pub fn yendlowa_read_roster(
+        policy: *const u8,
+        policy_length: usize,
+        roster: *const u8,
+        roster_length: usize,
+    ) -> Roster;
+    pub fn yendlowa_roster_records(
+        policy: *const u8,
+        policy_length: usize,
+        roster: *const u8,
+        roster_length: usize,
+    ) -> usize;
+    pub fn yendlowa_roster_text(
+        policy: *const u8,
+        policy_length: usize,
+        roster: *const u8,
+        roster_length: usize,
+        out: *mut u8,
+        out_length: usize,
+    ) -> Written;
+    pub fn yendlowa_count_policy(
+        policy: *const u8,
+        policy_length: usize,
+        roster: *const u8,
+        roster_length: usize,
+        out: *mut u8,
+        out_length: usize,
+    ) -> Written;
+    pub fn yendlowa_plan_roster(
+        policy: *const u8,
+        policy_length: usize,
+        roster: *const u8,
+        roster_length: usize,
+    ) -> Plan;
+    pub fn yendlowa_weigh_roster(
+        policy: *const u8,
+        policy_length: usize,
+        roster: *const u8,
+        roster_length: usize,
+        tree: *const u8,
+        tree_length: usize,
+    ) -> Weighed;
+    pub fn yendlowa_plan_text_roster(
+        policy: *const u8,
+        policy_length: usize,
+        roster: *const u8,
+        roster_length: usize,
+        out: *mut u8,
+        out_length: usize,
+    ) -> Written;
+    pub fn yendlowa_plan_dot_roster(
+        policy: *const u8,
+        policy_length: usize,
+        roster: *const u8,
+        roster_length: usize,
+        out: *mut u8,
+        out_length: usize,
+    ) -> Written;
+    pub fn yendlowa_growth_roster(
+        policy: *const u8,
+        policy_length: usize,
+        roster: *const u8,
+        roster_length: usize,
+    ) -> Growth;
+    pub fn yendlowa_growth_text_roster(
+        policy: *const u8,
+        policy_length: usize,
+        roster: *const u8,
+        roster_length: usize,
+        out: *mut u8,
+        out_length: usize,
+    ) -> Written;
+    pub fn yendlowa_issuer_key_roster(
+        policy: *const u8,
+        policy_length: usize,
+        roster: *const u8,
+        roster_length: usize,
+        name: *const u8,
+        name_length: usize,
+        root: *const u8,
+        root_length: usize,
+    ) -> IssuerKey;
+    pub fn yendlowa_issue_roster(
+        policy: *const u8,
+        policy_length: usize,
+        roster: *const u8,
+        roster_length: usize,
+        name: *const u8,
+        name_length: usize,
+        account: u32,
+        root: *const u8,
+        root_length: usize,
+        envelope: *mut u8,
+        envelope_length: usize,
+    ) -> Written;
+    pub fn yendlowa_seal_roster(
+        policy: *const u8,
+        policy_length: usize,
+        roster: *const u8,
+        roster_length: usize,
         name: *const u8,
         name_length: usize,
         root: *const u8,

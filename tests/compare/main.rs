@@ -5,6 +5,7 @@
 //! compare SEED COUNT groups  these, and before them the groups on chosen kinds of input
 //! compare fuzz SECONDS       cases at random with fresh seeds for so long
 
+mod accounts;
 mod brute;
 mod cases;
 mod chacha20_poly1305;
@@ -23,6 +24,8 @@ mod policy;
 mod random;
 mod reading;
 mod records;
+mod rostering;
+mod rosters;
 mod sealing;
 mod sha256;
 mod ties;
@@ -44,6 +47,7 @@ fn groups(random: &mut Random, second: &sha256::Sha256) -> Vec<bool> {
         deriving::groups(random, second, issued),
         fingerprints::groups(random, second),
         sealing::groups(random, second),
+        rostering::groups(random, second),
         ties::groups(random, second),
     ];
     let plans::Counts { plans, trees, texts } = counts;

@@ -2,6 +2,7 @@
 //! passed as a null pointer.
 
 use crate::library::*;
+use crate::rosters::{Counted, Standing};
 use crate::{policy, tree};
 use std::ptr::{null, null_mut};
 
@@ -60,7 +61,10 @@ pub fn expected(policy: &policy::Policy) -> (Vec<u16>, Vec<(u8, u8)>) {
 
 /// The plan, or the refusal. Entries past the label count, and all beside a refusal, have to be zero.
 pub fn plan(policy: &[u8]) -> Result<tree::Plan, u8> {
-    let made = unsafe { yendlowa_plan(at(policy), policy.len()) };
+    planned(unsafe { yendlowa_plan(at(policy), policy.len()) })
+}
+
+fn planned(made: Plan) -> Result<tree::Plan, u8> {
     let labels = made.labels;
     let behind_zero = made.parents.iter().skip(labels).all(|parent| *parent == 0)
         && made.weights.iter().skip(labels).all(|weight| *weight == 0)
@@ -82,7 +86,10 @@ pub fn plan(policy: &[u8]) -> Result<tree::Plan, u8> {
 
 /// A tree's total and whether it is least, or the refusal. Beside a refusal stand 0 and no.
 pub fn weigh(policy: &[u8], tree: &[u8]) -> Result<(u32, bool), u8> {
-    let weighed = unsafe { yendlowa_weigh(at(policy), policy.len(), at(tree), tree.len()) };
+    totalled(unsafe { yendlowa_weigh(at(policy), policy.len(), at(tree), tree.len()) })
+}
+
+fn totalled(weighed: Weighed) -> Result<(u32, bool), u8> {
     match (weighed.refusal, weighed.total, weighed.least, weighed.zeros) {
         (0, total, least, [0, 0]) => Ok((total, least)),
         (number, 0, false, [0, 0]) => Err(number),
@@ -112,7 +119,10 @@ pub fn plan_dot(policy: &[u8], out: &mut [u8]) -> Result<usize, u8> {
 /// For each label what one more account costs and the ceiling, or the refusal. Entries past the label count, and
 /// all beside a refusal, have to be zero.
 pub fn growth(policy: &[u8]) -> Result<Vec<(u8, u8)>, u8> {
-    let answer = unsafe { yendlowa_growth(at(policy), policy.len()) };
+    grown(unsafe { yendlowa_growth(at(policy), policy.len()) })
+}
+
+fn grown(answer: Growth) -> Result<Vec<(u8, u8)>, u8> {
     let figures: Vec<(u8, u8)> = answer.costs.into_iter().zip(answer.ceilings).collect();
     let behind_zero = figures.iter().skip(answer.labels).all(|both| *both == (0, 0)) && answer.zeros == [0; 7];
     match (answer.refusal, answer.labels) {
@@ -129,10 +139,13 @@ pub fn growth_text(policy: &[u8], out: &mut [u8]) -> Result<usize, u8> {
 
 /// The issuer's key, or the refusal. Beside a refusal stand 32 zero bytes.
 pub fn issuer_key(policy: &[u8], name: &[u8], root: &[u8]) -> Result<[u8; 32], u8> {
-    let answer = unsafe {
+    key(unsafe {
         let (policy, length) = (at(policy), policy.len());
         yendlowa_issuer_key(policy, length, at(name), name.len(), at(root), root.len())
-    };
+    })
+}
+
+fn key(answer: IssuerKey) -> Result<[u8; 32], u8> {
     match (answer.refusal, answer.key) {
         (0, key) => Ok(key),
         (number, key) if key == [0; 32] => Err(number),
@@ -224,4 +237,148 @@ pub fn labels(envelope: &[u8]) -> Result<(u16, Vec<[u8; 8]>), u8> {
 
 pub fn envelope_records(envelope: &[u8]) -> usize {
     unsafe { yendlowa_envelope_records(at(envelope), envelope.len()) }
+}
+
+/// A policy file and a roster file, as each operation with a roster takes them.
+#[derive(Clone, Copy)]
+pub struct Files<'a> {
+    pub policy: &'a [u8],
+    pub roster: &'a [u8],
+}
+
+type Reads<T> = unsafe extern "C" fn(*const u8, usize, *const u8, usize) -> T;
+type Writes = unsafe extern "C" fn(*const u8, usize, *const u8, usize, *mut u8, usize) -> Written;
+
+impl Files<'_> {
+    fn read<T>(self, operation: Reads<T>) -> T {
+        let Files { policy, roster } = self;
+        unsafe { operation(at(policy), policy.len(), at(roster), roster.len()) }
+    }
+
+    /// The length of what was written into `out`, or the refusal.
+    fn write(self, operation: Writes, out: &mut [u8]) -> Result<usize, u8> {
+        let Files { policy, roster } = self;
+        length(unsafe {
+            operation(at(policy), policy.len(), at(roster), roster.len(), at_mut(out), out.len())
+        })
+    }
+
+    /// Each label's accounts and each account's standing, or the refusal. Entries past the label count, places of
+    /// accounts that are on no label, and all beside a refusal, have to be zero.
+    pub fn roster(self) -> Result<Counted, u8> {
+        let read = self.read(yendlowa_read_roster);
+        let behind_zero = read.counts.iter().skip(read.labels).all(|count| *count == 0) && read.zeros == [0; 7];
+        if !behind_zero || read.labels > 64 {
+            return Err(255);
+        }
+        if read.refusal != 0 {
+            let zero = read.labels == 0 && read.states == [0; 4096] && read.places == [0; 4096];
+            return Err(if zero { read.refusal } else { 255 });
+        }
+        let standing = |(state, place): (&u8, &u8)| match (state, place) {
+            (0, 0) => Ok(Standing::Unknown),
+            (1, 0) => Ok(Standing::Withdrawn),
+            (2, label) => Ok(Standing::Active(*label)),
+            (3, label) => Ok(Standing::Held(*label)),
+            _ => Err(255),
+        };
+        let accounts = read.states.iter().zip(&read.places).map(standing).collect::<Result<_, _>>()?;
+        Ok(Counted { counts: read.counts[..read.labels].to_vec(), accounts })
+    }
+
+    pub fn records(self) -> usize {
+        self.read(yendlowa_roster_records)
+    }
+
+    pub fn text(self, out: &mut [u8]) -> Result<usize, u8> {
+        self.write(yendlowa_roster_text, out)
+    }
+
+    pub fn count_policy(self, out: &mut [u8]) -> Result<usize, u8> {
+        self.write(yendlowa_count_policy, out)
+    }
+
+    pub fn plan(self) -> Result<tree::Plan, u8> {
+        planned(self.read(yendlowa_plan_roster))
+    }
+
+    pub fn weigh(self, tree: &[u8]) -> Result<(u32, bool), u8> {
+        let Files { policy, roster } = self;
+        totalled(unsafe {
+            yendlowa_weigh_roster(at(policy), policy.len(), at(roster), roster.len(), at(tree), tree.len())
+        })
+    }
+
+    pub fn plan_text(self, out: &mut [u8]) -> Result<usize, u8> {
+        self.write(yendlowa_plan_text_roster, out)
+    }
+
+    pub fn plan_dot(self, out: &mut [u8]) -> Result<usize, u8> {
+        self.write(yendlowa_plan_dot_roster, out)
+    }
+
+    pub fn growth(self) -> Result<Vec<(u8, u8)>, u8> {
+        grown(self.read(yendlowa_growth_roster))
+    }
+
+    pub fn growth_text(self, out: &mut [u8]) -> Result<usize, u8> {
+        self.write(yendlowa_growth_text_roster, out)
+    }
+
+    pub fn issuer_key(self, name: &[u8], root: &[u8]) -> Result<[u8; 32], u8> {
+        let Files { policy, roster } = self;
+        key(unsafe {
+            yendlowa_issuer_key_roster(
+                at(policy),
+                policy.len(),
+                at(roster),
+                roster.len(),
+                at(name),
+                name.len(),
+                at(root),
+                root.len(),
+            )
+        })
+    }
+
+    pub fn issue(self, name: &[u8], account: u32, root: &[u8], out: &mut [u8]) -> Result<usize, u8> {
+        let Files { policy, roster } = self;
+        length(unsafe {
+            yendlowa_issue_roster(
+                at(policy),
+                policy.len(),
+                at(roster),
+                roster.len(),
+                at(name),
+                name.len(),
+                account,
+                at(root),
+                root.len(),
+                at_mut(out),
+                out.len(),
+            )
+        })
+    }
+
+    pub fn seal(self, name: &[u8], root: &[u8], nonce: &[u8], text: &[u8], out: &mut [u8]) -> Result<usize, u8> {
+        let Files { policy, roster } = self;
+        length(unsafe {
+            yendlowa_seal_roster(
+                at(policy),
+                policy.len(),
+                at(roster),
+                roster.len(),
+                at(name),
+                name.len(),
+                at(root),
+                root.len(),
+                at(nonce),
+                nonce.len(),
+                at(text),
+                text.len(),
+                at_mut(out),
+                out.len(),
+            )
+        })
+    }
 }

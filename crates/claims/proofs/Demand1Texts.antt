@@ -1,4 +1,4 @@
--- Demand 1 for the plan's text and its drawing, shown for every list of bytes and every buffer; once, for any bytes that are made of a policy.
+-- Demand 1 for the plan's text and its drawing, shown for every list of bytes and every buffer; once, for any bytes that are made of files.
 use mathlib.Core.List.{List}
 use mathlib.Core.Path.{ap}
 use Prim.Native.Nat.{ℕ}
@@ -14,17 +14,19 @@ use Rattle.plan_texts.specs.TextAnswer.{textWritten, textAfter}
 use Rattle.plan_texts.specs.Listing.{planText}
 use Rattle.claims.specs.Demand1Texts.{OfWritten, Demand1OfTexts}
 
-pub of-written : (policy bytes out : List ℕ)
-    → OfWritten policy bytes (writtenUnless (policyRefusal policy) bytes (length out)) out (bufferUnless (policyRefusal policy) bytes out)
-of-written policy bytes out = record {
-  policy-first = λ h. ap (λ (w : Written). w .refusal) (unless-refused bytes (length out) h);
-  short = λ ok. unless-sixteen (policyRefusal policy) ok bytes (length out);
-  given = λ ok. unless-given (policyRefusal policy) ok bytes (length out);
-  left = λ ok. unless-filled (policyRefusal policy) ok bytes out;
-  zeros = unless-zeros (policyRefusal policy) bytes (length out);
-  unchanged = unless-unchanged (policyRefusal policy) bytes out;
+pub of-written : (refusal : ℕ) (bytes out : List ℕ) → OfWritten refusal bytes (writtenUnless refusal bytes (length out)) out (bufferUnless refusal bytes out)
+of-written refusal bytes out = record {
+  files-first = λ h. ap (λ (w : Written). w .refusal) (unless-refused bytes (length out) h);
+  short = λ ok. unless-sixteen refusal ok bytes (length out);
+  given = λ ok. unless-given refusal ok bytes (length out);
+  left = λ ok. unless-filled refusal ok bytes out;
+  zeros = unless-zeros refusal bytes (length out);
+  unchanged = unless-unchanged refusal bytes out;
 }
 
 pub demand1-of-texts : (policy out : List ℕ) → Demand1OfTexts policy out
 unfolding textWritten textAfter drawingWritten drawingAfter
-demand1-of-texts policy out = record { text = of-written policy (planText policy) out; drawing = of-written policy (dotText policy) out }
+demand1-of-texts policy out = record {
+  text = of-written (policyRefusal policy) (planText policy) out;
+  drawing = of-written (policyRefusal policy) (dotText policy) out;
+}

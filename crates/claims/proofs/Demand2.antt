@@ -5,6 +5,7 @@ use mathlib.Core.Path.{_≡_, refl, sym, ap, _∙_, subst}
 use native.Mathlib.Omega.{arith}
 use lib.ListN.{length, getD, drop}
 use Rattle.buffers.proofs.Handed.{left-room}
+use Rattle.buffers.specs.Handed.{handedInto}
 use Rattle.envelope_file.proofs.Paths.{applications-path}
 use Rattle.envelope_file.specs.Derive.{derivedOf}
 use Rattle.envelope_file.specs.declared.Derived.{Derived}
@@ -21,7 +22,7 @@ use Rattle.envelopes.specs.Labels.{Labels, Issue}
 use Rattle.envelopes.specs.Secrets.{keyOf}
 use Rattle.hmac.specs.Secrets.{F, childSecret, labelKey}
 use Rattle.issuer_answers.proofs.Answers.{key-of-label, issue-written, issue-16, buffer-given, buffer-16}
-use Rattle.issuer_answers.specs.Issue.{accountEnvelope, envelopeAfter}
+use Rattle.issuer_answers.specs.Issue.{accountEnvelope}
 use Rattle.issuer_answers.specs.Keys.{parentOf, labelKeyOf, issuerKeyOf}
 use Rattle.issuer_answers.specs.Rows.{LabelOf, AccountOf}
 use Rattle.issuer_answers.specs.declared.IssuerKey.{IssuerKey}
@@ -33,9 +34,16 @@ use Rattle.policy_file.proofs.Lawful.{lawful, name-length, count-small}
 use Rattle.policy_file.specs.File.{nameOf, countOf}
 use Rattle.policy_file.specs.Whole.{AcceptedPolicy, labelCount}
 use Rattle.trees.proofs.Smallest.{smallest-sufficient}
-use Rattle.claims.specs.Demand2.{OfSecrets, OfAccount, Demand2, secret}
+use Rattle.claims.specs.Demand2.{OfSecrets, OfEnvelope, OfAccount, Demand2, secret}
 use Rattle.claims.specs.Published.{R}
 use Rattle.claims.proofs.Published.{published-of-policy}
+
+-- bytes handed out into a buffer that has room for them
+pub into-room : (written out : List ℕ) → length written ≤ length out → handedInto written out ≡ written ++ drop (length written) out
+unfolding pasted
+into-room written out room =
+    let start : 0 + length written ≡ length written = omega arith in
+    sym (left-room written out room refl) ∙ ap (λ (k : ℕ). written ++ drop k out) start
 
 module _ (file : List ℕ) (ok : AcceptedPolicy file) where
   -- the policy's labels, hung by the plan's tree
@@ -67,25 +75,12 @@ module _ (file : List ℕ) (ok : AcceptedPolicy file) where
       key = key-answer;
     }
 
-    module _ (l account : ℕ) (hl : l < labelCount file) (some : 0 < account) (within : account ≤ countOf file l) (small : countOf file l < 65536) where
-      abbrev written : List ℕ
-      written = accountEnvelope file root l account
-
-      asked : AccountOf file (nameOf file l) l account
-      asked = record { label = label-of hl; some = some; within = within }
-
+    -- an envelope for any account number of two bytes
+    module _ (l account : ℕ) (hl : l < labelCount file) (some : 0 < account) (fits : account < 65536) where
       for : Issue (labelCount file) l account root
-      for = record { label = hl; some = some; fits = omega arith; secret = whole }
+      for = record { label = hl; some = some; fits = fits; secret = whole }
 
-      left-over : (out : List ℕ) → length written ≤ length out → envelopeAfter file (nameOf file l) account root out ≡ written ++ drop (length written) out
-      unfolding pasted
-      left-over out room =
-          let start : 0 + length written ≡ length written = omega arith in
-          buffer-given file (nameOf file l) account root l asked whole out
-          ∙ sym (left-room written out room refl)
-          ∙ ap (λ (k : ℕ). written ++ drop k out) start
-
-      opened : (m : ℕ) → m < labelCount file → R file m l → derivedOf written (nameOf file m) ≡ record {
+      opened : (m : ℕ) → m < labelCount file → R file m l → derivedOf (accountEnvelope file root l account) (nameOf file m) ≡ record {
         refusal = 0;
         key = issuerKeyOf file (nameOf file m) root .key;
         applications = stepsTo (atOrBelow file) (parentOf file) l m + 1;
@@ -96,16 +91,12 @@ module _ (file : List ℕ) (ok : AcceptedPolicy file) where
           derived : List ℕ → ℕ → Derived
           derived key m = record { refusal = 0; key = key; applications = stepsTo (atOrBelow file) (parentOf file) l m + 1 }
 
-      pub of-account : OfAccount file root l account written
+      pub of-envelope : OfEnvelope file root l account (accountEnvelope file root l account)
       unfolding accountEnvelope
-      of-account = record {
-        issued = λ out room. issue-written file (nameOf file l) account root l asked whole (length out) room;
-        left = left-over;
-        refused = λ out short. issue-16 file (nameOf file l) account root l asked whole (length out) short;
-        kept = λ out short. buffer-16 file (nameOf file l) account root l asked whole out short;
+      of-envelope = record {
         read = is-accepted labels for;
         opens = opened;
-        path = λ m hm r. applications-path written (nameOf file m) (ap (λ (d : Derived). d .refusal) (opened m hm r));
+        path = λ m hm r. applications-path (accountEnvelope file root l account) (nameOf file m) (ap (λ (d : Derived). d .refusal) (opened m hm r));
         refuses-label = λ m hm other. refuses labels for (nameOf file m)
             (λ k hk r e. other (subst (λ (j : ℕ). R file j l) (sym (lawful file ok .distinct m k hm hk e)) r));
         refuses = refuses labels for;
@@ -121,6 +112,23 @@ module _ (file : List ℕ) (ok : AcceptedPolicy file) where
           as-long = accounts-length (nameOf file) (atOrBelow file) (parentOf file) root l (labelCount file) account other;
           bytes = accounts-alike (nameOf file) (atOrBelow file) (parentOf file) root l (labelCount file) account other;
         };
+      }
+
+    -- an existing account of the label
+    module _ (l account : ℕ) (hl : l < labelCount file) (some : 0 < account) (within : account ≤ countOf file l) (small : countOf file l < 65536) where
+      abbrev written : List ℕ
+      written = accountEnvelope file root l account
+
+      asked : AccountOf file (nameOf file l) l account
+      asked = record { label = label-of hl; some = some; within = within }
+
+      pub of-account : OfAccount file root l account written
+      of-account = record {
+        issued = λ out room. issue-written file (nameOf file l) account root l asked whole (length out) room;
+        left = λ out room. buffer-given file (nameOf file l) account root l asked whole out ∙ into-room written out room;
+        refused = λ out short. issue-16 file (nameOf file l) account root l asked whole (length out) short;
+        kept = λ out short. buffer-16 file (nameOf file l) account root l asked whole out short;
+        envelope = of-envelope l account hl some (omega arith);
       }
 
 pub demand2 : (file : List ℕ) → AcceptedPolicy file → ((i : ℕ) → getD file i 0 < 256) → Demand2 file

@@ -18,15 +18,16 @@ use Rattle.lists.specs.Tables.{someBelow, everyBelow, listed}
 use Rattle.order.specs.Table.{entryAt, joined, linked, rowUpTo, labelRow, rowsBelow, orderTable}
 use Rattle.plan_answers.proofs.PolicyOrder.{policy-order}
 use Rattle.plan_answers.specs.Planned.{atOrBelow, planned, planOf}
+use Rattle.policy_file.specs.Counts.{withCount, OtherCounts}
 use Rattle.policy_file.specs.File.{nameOf, countOf, pairAt, isNamed, labelNamed}
 use Rattle.policy_file.specs.Record.{labelKind, overKind, markedKind, policyKind}
-use Rattle.policy_file.specs.Whole.{isLowerOf, isLower, isPlaced, atEnd, scanFrom, policyOf, labelCount, AcceptedPolicy, pairsOf, orderOf}
+use Rattle.policy_file.specs.Whole.{isLowerOf, isLower, isPlaced, atEnd, scanFrom, policyOf, policyRefusal, labelCount, AcceptedPolicy, pairsOf, orderOf}
 use Rattle.trees.proofs.Growth.{below-exactly, below-once, cost-added, total-same}
 use Rattle.trees.specs.Growth.{oneMore, planTotal, below, ceiling, Grows}
 use Rattle.trees.specs.Sums.{sum, sumWhere, select}
 use Rattle.trees.specs.Weights.{weighed, weight, inSmallest, smallest, labelKeys, total, takes, best, plan}
 use Rattle.weights.specs.Tables.{entries}
-use Rattle.claims.specs.Growth.{raised, labelsBelow, OfRaised, Ask3, OfAccounts, OfGrowth}
+use Rattle.claims.specs.Growth.{raised, labelsBelow, Ask3, OfAccounts, OfGrowth}
 use Rattle.claims.specs.Starred.{E}
 use Rattle.claims.proofs.Demand1Texts.{of-written}
 use Rattle.claims.proofs.Raised.{raised-policy}
@@ -51,7 +52,7 @@ growth-of-file file out = record {
   full = no-room file;
   past = growth-past file;
   zeros = growth-refused file;
-  text = of-written file (growthText file) out;
+  text = of-written (policyRefusal file) (growthText file) out;
 }
 
 -- the plan's total, as the theory has it
@@ -61,7 +62,7 @@ plan-total file = refl
 
 -- ---- an accepted policy, and the same with one account more at label l
 
-module _ (file : List ℕ) (l : ℕ) (more : OfRaised file l) where
+module _ (file : List ℕ) (l : ℕ) (more : OtherCounts file (raised file l) (oneMore (countOf file) l)) where
   same-order : atOrBelow (raised file l) ≡ atOrBelow file
   unfolding orderOf
   same-order = ap entryAt (ap₂ orderTable (more .labels) (more .pairs))
@@ -90,7 +91,7 @@ ask3 file ok l hl room = record {
     le : ℕ → ℕ → Bool
     le = atOrBelow file
 
-    more : OfRaised file l
+    more : OtherCounts file (raised file l) (oneMore (countOf file) l)
     more = raised-policy file ok l hl room
 
     G : Grows n (countOf file) le l
@@ -106,10 +107,10 @@ ask3-of-accounts file ok count l hl = let G = policy-grows file ok count l hl in
 
 -- one account more at CURVES adds 2, and 2 labels are at or below it
 pub most-met : (planOf (raised E 1) .total ≡ planOf E .total + length (labelsBelow E 1)) × (length (labelsBelow E 1) ≡ 2)
-unfolding raised pasted below sameBytes classOf padding formed someNoSpace wellFormed firstFrom someBelow everyBelow listed joined linked rowUpTo labelRow rowsBelow orderTable nameOf countOf pairAt isNamed labelNamed labelKind overKind markedKind policyKind isLowerOf isLower isPlaced atEnd scanFrom policyOf pairsOf orderOf sum sumWhere select weighed weight inSmallest smallest labelKeys total takes best plan planned planOf
+unfolding raised withCount pasted below sameBytes classOf padding formed someNoSpace wellFormed firstFrom someBelow everyBelow listed joined linked rowUpTo labelRow rowsBelow orderTable nameOf countOf pairAt isNamed labelNamed labelKind overKind markedKind policyKind isLowerOf isLower isPlaced atEnd scanFrom policyOf pairsOf orderOf sum sumWhere select weighed weight inSmallest smallest labelKeys total takes best plan planned planOf
 most-met = (refl, refl)
 
 -- one account more at SUITE adds 1, though 4 labels are at or below it
 pub least-met : (planOf (raised E 0) .total ≡ planOf E .total + 1) × (length (labelsBelow E 0) ≡ 4)
-unfolding raised pasted below sameBytes classOf padding formed someNoSpace wellFormed firstFrom someBelow everyBelow listed joined linked rowUpTo labelRow rowsBelow orderTable nameOf countOf pairAt isNamed labelNamed labelKind overKind markedKind policyKind isLowerOf isLower isPlaced atEnd scanFrom policyOf pairsOf orderOf sum sumWhere select weighed weight inSmallest smallest labelKeys total takes best plan planned planOf
+unfolding raised withCount pasted below sameBytes classOf padding formed someNoSpace wellFormed firstFrom someBelow everyBelow listed joined linked rowUpTo labelRow rowsBelow orderTable nameOf countOf pairAt isNamed labelNamed labelKind overKind markedKind policyKind isLowerOf isLower isPlaced atEnd scanFrom policyOf pairsOf orderOf sum sumWhere select weighed weight inSmallest smallest labelKeys total takes best plan planned planOf
 least-met = (refl, refl)

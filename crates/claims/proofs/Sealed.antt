@@ -3,7 +3,7 @@ use Prim.Native.Nat.{ℕ, _+_, _≤_, _<_}
 use mathlib.Core.List.{List, _++_}
 use mathlib.Core.Path.{_≡_, refl, sym, ap, _∙_}
 use native.Mathlib.Omega.{arith}
-use lib.ListN.{length, getD, drop}
+use lib.ListN.{length, drop}
 use Rattle.buffers.specs.Handed.{wrote}
 use Rattle.envelope_file.specs.declared.Derived.{Derived}
 use Rattle.issuer_answers.specs.Issue.{accountEnvelope}
@@ -11,14 +11,14 @@ use Rattle.issuer_answers.specs.Keys.{issuerKeyOf}
 use Rattle.issuer_answers.specs.Rows.{given}
 use Rattle.open_answers.proofs.Sealed.{opens-sealed, left-sealed, refuses-sealed, kept-sealed}
 use Rattle.policy_file.proofs.Lawful.{name-length}
-use Rattle.policy_file.specs.File.{nameOf, countOf}
+use Rattle.policy_file.specs.File.{nameOf}
 use Rattle.policy_file.specs.Whole.{AcceptedPolicy, labelCount}
 use Rattle.seal_answers.proofs.Answers.{label-sealed-length, seal-given, file-left}
 use Rattle.seal_answers.specs.Rows.{Seals}
 use Rattle.seal_answers.specs.Seal.{labelSealed}
-use Rattle.claims.specs.Demand2.{OfAccount}
+use Rattle.claims.specs.Demand2.{OfEnvelope}
 use Rattle.claims.specs.Sealed.{OfSeal, OfOpen, Ask2}
-use Rattle.claims.proofs.Demand2.{demand2}
+use Rattle.claims.proofs.Demand2.{of-envelope}
 
 abbrev number : Derived → ℕ
 number d = d .refusal
@@ -52,29 +52,28 @@ module _ (policy : List ℕ) (ok : AcceptedPolicy policy) (root nonce text : Lis
     left = λ fits. file-left policy name root nonce text out seals (omega (arith, size)) ∙ ap (λ (n : ℕ). file ++ drop n out) (sym size);
   }
 
-  module _ (bytes : (i : ℕ) → getD policy i 0 < 256) (l account : ℕ) (held : l < labelCount policy) (some : 0 < account)
-      (within : account ≤ countOf policy l) where
+  module _ (l account : ℕ) (held : l < labelCount policy) (some : 0 < account) (fits : account < 65_536) where
     abbrev envelope : List ℕ
     envelope = accountEnvelope policy root l account
 
-    of-account : OfAccount policy root l account envelope
-    of-account = demand2 policy ok bytes .accounts root whole l account held some within
+    at-desk : OfEnvelope policy root l account envelope
+    at-desk = of-envelope policy ok root whole l account held some fits
 
     of-open : (out : List ℕ) → OfOpen policy root text m l account file out
     unfolding labelSealed
     of-open out = record {
-      opens = λ r fits. opens-sealed envelope key name nonce text eight twelve short (of-account .read) (ap number (of-account .opens m label r))
-          (ap (λ (d : Derived). d .key) (of-account .opens m label r)) (length out) fits;
-      text-left = λ r fits. left-sealed envelope key name nonce text eight twelve short (of-account .read) (ap number (of-account .opens m label r))
-          (ap (λ (d : Derived). d .key) (of-account .opens m label r)) out fits;
-      refuses = λ r. refuses-sealed envelope key name nonce text eight twelve short (of-account .read) (ap number (of-account .refuses-label m label r)) (length out);
-      kept = λ r. kept-sealed envelope key name nonce text eight twelve short (of-account .read) (ap number (of-account .refuses-label m label r)) out;
+      opens = λ r fits. opens-sealed envelope key name nonce text eight twelve short (at-desk .read) (ap number (at-desk .opens m label r))
+          (ap (λ (d : Derived). d .key) (at-desk .opens m label r)) (length out) fits;
+      text-left = λ r fits. left-sealed envelope key name nonce text eight twelve short (at-desk .read) (ap number (at-desk .opens m label r))
+          (ap (λ (d : Derived). d .key) (at-desk .opens m label r)) out fits;
+      refuses = λ r. refuses-sealed envelope key name nonce text eight twelve short (at-desk .read) (ap number (at-desk .refuses-label m label r)) (length out);
+      kept = λ r. kept-sealed envelope key name nonce text eight twelve short (at-desk .read) (ap number (at-desk .refuses-label m label r)) out;
     }
 
 -- for every accepted policy, root secret of 32 bytes, nonce of 12, text of at most 32,768 and label
-pub ask2 : (policy : List ℕ) → AcceptedPolicy policy → ((i : ℕ) → getD policy i 0 < 256) → (root nonce text : List ℕ) (m : ℕ) → length root ≡ 32
+pub ask2 : (policy : List ℕ) → AcceptedPolicy policy → (root nonce text : List ℕ) (m : ℕ) → length root ≡ 32
     → length nonce ≡ 12 → length text ≤ 32768 → m < labelCount policy → Ask2 policy root nonce text m (labelSealed policy (nameOf policy m) root nonce text)
-ask2 policy ok bytes root nonce text m whole twelve short label = record {
+ask2 policy ok root nonce text m whole twelve short label = record {
   seals = of-seal policy ok root nonce text m whole twelve short label;
-  opens = of-open policy ok root nonce text m whole twelve short label bytes;
+  opens = of-open policy ok root nonce text m whole twelve short label;
 }

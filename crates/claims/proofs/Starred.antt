@@ -16,7 +16,8 @@ use Rattle.format.specs.Bytes.{sameBytes}
 use Rattle.format.specs.Names.{classOf, padding, formed, someNoSpace, wellFormed}
 use Rattle.format.specs.Search.{firstFrom}
 use Rattle.format.specs.declared.Found.the-variants.{At}
-use Rattle.issuer_answers.proofs.Answers.{envelope-at, issue-14}
+use Rattle.issuer_answers.proofs.Answers.{issue-refuses, issue-14}
+use Rattle.issuer_answers.proofs.By.{envelope-at}
 use Rattle.issuer_answers.specs.Issue.{askedEnvelope, issuedOf, envelopeAfter}
 use Rattle.issuer_answers.specs.declared.IssuerKey.{IssuerKey}
 use Rattle.issuer_answers.specs.Keys.{parentOf, labelAsked, issuerKeyOf}
@@ -68,10 +69,12 @@ module _ (root out : List ℕ) where
   Refused account = (issuedOf E CONV32 account root (length out) ≡ refusedWritten 14) × (envelopeAfter E CONV32 account root out ≡ out)
 
   no-account-6 : Refused 6
-  no-account-6 = let r = issue-14 E CONV32 6 root 2 conv32 (inr (omega (arith, worked-E .accounts))) in (r .issues (length out), r .leaves out)
+  no-account-6 =
+      let r = issue-refuses E CONV32 6 root (issue-14 E CONV32 6 root 2 conv32 (inr (omega (arith, worked-E .accounts)))) in
+      (r .0 (length out), r .1 out)
 
   no-account-0 : Refused 0
-  no-account-0 = let r = issue-14 E CONV32 0 root 2 conv32 (inl refl) in (r .issues (length out), r .leaves out)
+  no-account-0 = let r = issue-refuses E CONV32 0 root (issue-14 E CONV32 0 root 2 conv32 (inl refl)) in (r .0 (length out), r .1 out)
 
 -- ---- the envelope of CONV32's account 5, for any root secret
 
@@ -109,8 +112,8 @@ module _ (root : List ℕ) (whole : length root ≡ 32) where
       two = omega (arith, worked-E .four)
 
       go : (b : Bool) → atOrBelow E m 2 ≡ b → derivedOf envelope (nameOf E m) ≡ answer root m
-      go true t = rw t (account .opens m hm (test-says (policy-order E (worked-E .accepted)) hm two t))
-      go false t = rw t (account .refuses-label m hm (λ r. false≢true (sym t ∙ test-yes (policy-order E (worked-E .accepted)) hm two r)))
+      go true t = rw t (account .envelope .opens m hm (test-says (policy-order E (worked-E .accepted)) hm two t))
+      go false t = rw t (account .envelope .refuses-label m hm (λ r. false≢true (sym t ∙ test-yes (policy-order E (worked-E .accepted)) hm two r)))
 
 -- what the desk answers for the envelope, it answers for what stands in the buffer
 from-buffer : (m : ℕ) → m < labelCount E → Issues E CONV32 5 (λ root written. derivedOf written (nameOf E m) ≡ answer root m)

@@ -47,16 +47,9 @@ pub record ButForAccount (a b : List ℕ) : Type 0 where
   pub as-long : length a ≡ length b
   pub bytes : (i : ℕ) → i ≢ 2 → i ≢ 3 → getD a i 0 ≡ getD b i 0
 
--- an existing account at label l, and what is written for it
-pub record OfAccount (file root : List ℕ) (l account : ℕ) (written : List ℕ) : Type 0 where
-  -- "An envelope written for an account": `issue` writes it into every buffer that has room (01: "writes the envelope from the buffer's start,
-  -- answers its length and changes no byte behind it")
-  pub issued : (out : List ℕ) → length written ≤ length out
-      → issuedOf file (nameOf file l) account root (length out) ≡ wrote (length written)
-  pub left : (out : List ℕ) → length written ≤ length out → envelopeAfter file (nameOf file l) account root out ≡ written ++ drop (length written) out
-  -- a shorter buffer: 16, and nothing changes
-  pub refused : (out : List ℕ) → length out < length written → issuedOf file (nameOf file l) account root (length out) ≡ refusedWritten 16
-  pub kept : (out : List ℕ) → length out < length written → envelopeAfter file (nameOf file l) account root out ≡ out
+-- the envelope for account number `account` at label l: what the desk reads in it. It holds of every number from 1 to 65,535, so of the accounts that `LB`
+-- counts and of those of a roster.
+pub record OfEnvelope (file root : List ℕ) (l account : ℕ) (written : List ℕ) : Type 0 where
   -- "and read at the desk"
   pub read : AcceptedEnvelope written
   -- "gives, for every label at or below the account's label, the issuer's own key": the very answer of `issuer_key`; 01: "the number of
@@ -84,6 +77,19 @@ pub record OfAccount (file root : List ℕ) (l account : ℕ) (written : List �
   -- two accounts of one label: the envelopes differ in the account number alone
   pub numbered : accountIn written ≡ account
   pub alike : (other : ℕ) → ButForAccount written (accountEnvelope file root l other)
+
+-- an existing account at label l, and what is written for it
+pub record OfAccount (file root : List ℕ) (l account : ℕ) (written : List ℕ) : Type 0 where
+  -- "An envelope written for an account": `issue` writes it into every buffer that has room (01: "writes the envelope from the buffer's start,
+  -- answers its length and changes no byte behind it")
+  pub issued : (out : List ℕ) → length written ≤ length out
+      → issuedOf file (nameOf file l) account root (length out) ≡ wrote (length written)
+  pub left : (out : List ℕ) → length written ≤ length out → envelopeAfter file (nameOf file l) account root out ≡ written ++ drop (length written) out
+  -- a shorter buffer: 16, and nothing changes
+  pub refused : (out : List ℕ) → length out < length written → issuedOf file (nameOf file l) account root (length out) ≡ refusedWritten 16
+  pub kept : (out : List ℕ) → length out < length written → envelopeAfter file (nameOf file l) account root out ≡ out
+  -- "and read at the desk", where it opens what is licensed and nothing else
+  pub envelope : OfEnvelope file root l account written
 
 pub record Demand2 (file : List ℕ) : Type 0 where
   -- "Licence order, tree weights, key sets, secrets and keys are those of the published tree-based scheme, with HMAC-SHA-256 as its function."

@@ -1,28 +1,27 @@
 -- The promise of 02's Ask 3, sentence by sentence: "For an accepted policy and a label with fewer than 65,535 accounts, one account more there raises
 -- the plan's total by at least 1 and at most by the number of labels at or below it. Show this of the plan as it is." What `plan_policy` answers
 -- stands in the plan_answers crate's specs/, what `growth_policy` and `growth_text` answer in the growth_answers crate's.
-use Prim.Native.Nat.{ℕ, suc, _+_, _*_, _≤_, _<_}
+use Prim.Native.Nat.{ℕ, suc, _+_, _≤_, _<_}
 use mathlib.Core.List.{List, List·Memᴰ}
 use mathlib.Core.Logic.{_↔_}
 use mathlib.Core.Path.{_≡_}
-use lib.ListN.{length, getD}
-use Rattle.envelopes.specs.Envelope.{numberBytes}
+use lib.ListN.{length}
 use Rattle.growth_answers.specs.Growing.{growthOf, refusedGrowth}
 use Rattle.growth_answers.specs.GrowthListing.{growthText}
 use Rattle.growth_answers.specs.GrowthTextAnswer.{growthWritten, growthAfter}
-use Rattle.lists.specs.Buffer.{pasted}
 use Rattle.plan_answers.specs.Planned.{planned, planOf, atOrBelow}
-use Rattle.policy_file.specs.File.{nameOf, countOf}
-use Rattle.policy_file.specs.Whole.{policyRefusal, labelCount, pairsOf, AcceptedPolicy}
+use Rattle.policy_file.specs.Counts.{withCount, OtherCounts}
+use Rattle.policy_file.specs.File.{countOf}
+use Rattle.policy_file.specs.Whole.{policyRefusal, labelCount}
 use Rattle.trees.specs.Growth.{oneMore, below}
 use Rattle.trees.specs.Trees.{Once}
 use Rattle.weights.specs.Tables.{entries}
 use Rattle.claims.specs.Demand1Texts.{OfWritten}
 use Rattle.claims.specs.Published.{R}
 
--- "one account more there": the policy file with the count of label l raised by one, which stands in two bytes behind the label's mark and name
+-- "one account more there": the policy file with the count of label l raised by one
 unfoldable pub raised : List ℕ → (l : ℕ) → List ℕ
-raised file l = pasted file (12 * l + 10) (numberBytes (suc (countOf file l)))
+raised file l = withCount file l (suc (countOf file l))
 
 -- the labels "at or below it", ascending
 abbrev pub labelsBelow : List ℕ → (l : ℕ) → List ℕ
@@ -32,20 +31,10 @@ labelsBelow file l = below (labelCount file) (atOrBelow file) l
 abbrev pub plannedTotal : List ℕ → (count : ℕ → ℕ) → ℕ
 plannedTotal file count = planned 0 (labelCount file) count (atOrBelow file) .total
 
--- the file with one account more at label l is a policy that differs in that one count
-pub record OfRaised (file : List ℕ) (l : ℕ) : Type 0 where
-  pub accepted : AcceptedPolicy (raised file l)
-  -- it can be handed in, as a file of bytes, if the first can
-  pub bytes : ((i : ℕ) → getD file i 0 < 256) → (i : ℕ) → getD (raised file l) i 0 < 256
-  pub long : length (raised file l) ≡ length file
-  pub labels : labelCount (raised file l) ≡ labelCount file
-  pub names : (m : ℕ) → m < labelCount file → nameOf (raised file l) m ≡ nameOf file m
-  pub pairs : pairsOf (raised file l) ≡ pairsOf file
-  pub counts : (m : ℕ) → m < labelCount file → countOf (raised file l) m ≡ oneMore (countOf file) l m
-
 -- for every accepted policy and every label l of it with fewer than 65,535 accounts
 pub record Ask3 (file : List ℕ) (l : ℕ) : Type 0 where
-  pub one-more : OfRaised file l
+  -- the file with one account more at label l is a policy that differs in that one count
+  pub one-more : OtherCounts file (raised file l) (oneMore (countOf file) l)
   -- "one account more there raises the plan's total by at least 1"
   pub least : planOf file .total + 1 ≤ planOf (raised file l) .total
   -- "and at most by the number of labels at or below it"
@@ -71,4 +60,4 @@ pub record OfGrowth (file out : List ℕ) : Type 0 where
   pub past : (l : ℕ) → labelCount file ≤ l → (entries (growthOf file .costs) l ≡ 0) × (entries (growthOf file .ceilings) l ≡ 0)
   -- demand 1: "A refused one yields zeros beside that number and changes nothing in the memory lent with it."
   pub zeros : 0 < policyRefusal file → growthOf file ≡ refusedGrowth (policyRefusal file)
-  pub text : OfWritten file (growthText file) (growthWritten file (length out)) out (growthAfter file out)
+  pub text : OfWritten (policyRefusal file) (growthText file) (growthWritten file (length out)) out (growthAfter file out)

@@ -1,10 +1,11 @@
 -- The envelope of an account at label l (01, "Secrets, keys and the envelope"), over the labels' names, the order's test le, a tree and the
 -- root secret.
-use Prim.Native.Nat.{ℕ, zero, suc, _+_, _/_, _%_}
+use Prim.Native.Nat.{ℕ, zero, suc, _+_}
 use mathlib.Core.Bool.{Bool, cond}
 use mathlib.Core.List.{List, [], _∷_, _++_, map}
 use Rattle.envelope_file.specs.File.{isHeld, nameIn, secretIn}
 use Rattle.envelope_file.specs.Whole.{recordsOf}
+use Rattle.format.specs.Bytes.{numberBytes}
 use Rattle.format.specs.Marks.{EN, KS, KD}
 use Rattle.trees.specs.Sums.{select}
 use Rattle.trees.specs.Weights.{inSmallest}
@@ -17,10 +18,6 @@ heldRecord name secret = KS ++ name ++ secret
 -- "`KD`, name, one byte (11 bytes)"
 abbrev pub underRecord : (name : List ℕ) (place : ℕ) → List ℕ
 underRecord name place = KD ++ name ++ (place ∷ [])
-
--- a two-byte number, "most significant byte first"
-abbrev pub numberBytes : ℕ → List ℕ
-numberBytes x = x / 256 % 256 ∷ x % 256 ∷ []
 
 -- "`EN`, account number (2 bytes), the account's label name"
 abbrev pub header : (account : ℕ) (name : List ℕ) → List ℕ

@@ -12,7 +12,11 @@ use lib.ListN.{length, getD, take, drop, replicate, drop-of-length-le, length-dr
 use lib.Seq.{drop-cons, length-take-le, take-all, take-append-le, drop-append-le}
 use borrow.Author.Tests.{eq-eqb, eqb-true}
 use Rattle.lists.proofs.Pasted.{copied, zero-filled-all}
-use Rattle.format.specs.Bytes.{bytesAt, sameBytes}
+use Rattle.format.specs.Bytes.{bytesAt, sameBytes, numberAt, numberBytes}
+
+-- a number below 65,536 is read back from its two bytes
+pub number-back : (x : ℕ) → x < 65_536 → numberAt (numberBytes x) 0 ≡ x
+number-back x h = omega arith
 
 -- a string from place i on is its byte there and the string from the next place on
 pub drop-next : (s : List ℕ) (i : ℕ) → i < length s → drop i s ≡ getD s i 0 ∷ drop (i + 1) s

@@ -23,3 +23,19 @@ KD = 75 ∷ 68 ∷ []
 -- 02, Ask 2
 abbrev pub SM : List ℕ
 SM = 83 ∷ 77 ∷ []
+
+-- 02, Ask 4
+abbrev pub JN : List ℕ
+JN = 74 ∷ 78 ∷ []
+
+abbrev pub MV : List ℕ
+MV = 77 ∷ 86 ∷ []
+
+abbrev pub HD : List ℕ
+HD = 72 ∷ 68 ∷ []
+
+abbrev pub RL : List ℕ
+RL = 82 ∷ 76 ∷ []
+
+abbrev pub WD : List ℕ
+WD = 87 ∷ 68 ∷ []

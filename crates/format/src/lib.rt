@@ -20,6 +20,16 @@ pub const KD: [u8; 2] = *b"KD";
 
 pub const SM: [u8; 2] = *b"SM";
 
+pub const JN: [u8; 2] = *b"JN";
+
+pub const MV: [u8; 2] = *b"MV";
+
+pub const HD: [u8; 2] = *b"HD";
+
+pub const RL: [u8; 2] = *b"RL";
+
+pub const WD: [u8; 2] = *b"WD";
+
 // What a byte of a name can be.
 pub enum Class {
     Letter,

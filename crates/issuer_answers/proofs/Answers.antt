@@ -8,18 +8,18 @@ use native.Mathlib.Omega.{arith}
 use borrow.Author.Tests.{eq-eqb, ne-eqb, eqb-true, eqb-false, lt-ltb, le-ltb, ltb-true, ltb-false}
 use lib.Dec.{eqb, ltb}
 use lib.ListN.{length}
-use Rattle.buffers.proofs.Handed.{handed-none, left-none, room-handed, unless-none, unless-refused, unless-into, unless-left}
-use Rattle.buffers.specs.Handed.{wrote, refusedWritten, handed, handedInto}
+use Rattle.buffers.specs.Handed.{wrote, refusedWritten, handedInto}
 use Rattle.buffers.specs.declared.Written.{Written}
 use Rattle.format.specs.declared.Found.the-variants.{At, Nothing}
 use Rattle.format.specs.declared.Found.{Found}
 use Rattle.policy_file.specs.File.{countOf}
 use Rattle.policy_file.specs.Whole.{policyRefusal, labelCount, AcceptedPolicy}
 use Rattle.issuer_answers.specs.Keys.{labelKeyOf, labelAsked, refusedKey, keyAt, issuerKeyOf}
-use Rattle.issuer_answers.specs.Issue.{accountEnvelope, accountRefusal, askedRefusal, issueRefusal, askedEnvelope, issuedOf, envelopeAfter}
+use Rattle.issuer_answers.specs.Issue.{accountEnvelope, accountRefusal, issuedOf, envelopeAfter}
 use Rattle.issuer_answers.specs.Rows.{NoLabel, LabelOf, NoAccount, AccountOf, KeyAnswered, given, IssueAnswered, policys, row-13, row-14, row-15, row-16, written}
 use Rattle.issuer_answers.specs.declared.IssuerKey.{IssuerKey}
 use Rattle.issuer_answers.proofs.Asked.{asked-label, asked-none, asked-either}
+use Rattle.issuer_answers.proofs.By.{Refuses, by-policy, by-13, by-number, by-left, by-16, by-kept, by-written}
 
 -- a number is 0 or not
 none-or-some : (n : ℕ) → (n ≡ 0) ⊎ (0 < n)
@@ -108,126 +108,52 @@ module _ (policy root : List ℕ) (account l : ℕ) where
       go false false true e = refl
       go false false false e = absurd (omega arith)
 
+-- the laws of By.antt for the counts of the policy
 module _ (policy name : List ℕ) (account : ℕ) (root : List ℕ) where
-  abbrev refusal : ℕ
-  refusal = issueRefusal policy name account root
-
-  abbrev envelope : List ℕ
-  envelope = askedEnvelope policy name account root
-
-  -- the number before the buffer's
-  pub refusal-policy : policyRefusal policy ≢ 0 → refusal ≡ policyRefusal policy
-  unfolding issueRefusal
-  refusal-policy ne = rw (ne-eqb (policyRefusal policy) 0 ne)
-
-  pub refusal-asked : AcceptedPolicy policy → {f : Found} → labelAsked policy (labelCount policy) name ≡ f → refusal ≡ askedRefusal policy root account f
-  unfolding issueRefusal
-  refusal-asked ok e = rw (eq-eqb (policyRefusal policy) 0 ok, e)
-
-  pub refusal-13 : askedRefusal policy root account Nothing ≡ 13
-  unfolding askedRefusal
-  refusal-13 = refl
-
-  pub refusal-at : (l : ℕ) → askedRefusal policy root account (At l) ≡ accountRefusal policy root account l
-  unfolding askedRefusal
-  refusal-at l = refl
-
-  pub envelope-at : {l : ℕ} → labelAsked policy (labelCount policy) name ≡ At l → envelope ≡ accountEnvelope policy root l account
-  unfolding askedEnvelope
-  envelope-at e = rw (e, askedEnvelope)
-
-  -- the answer and the buffer from that number
-  pub issued-refused : (room : ℕ) → 0 < refusal → issuedOf policy name account root room ≡ refusedWritten refusal
-  unfolding issuedOf
-  issued-refused room some = unless-refused envelope room some
-
-  pub buffer-refused : (out : List ℕ) → 0 < refusal → envelopeAfter policy name account root out ≡ out
-  unfolding envelopeAfter
-  buffer-refused out some = unless-left envelope out some
-
-  pub issued-handed : (room : ℕ) → refusal ≡ 0 → issuedOf policy name account root room ≡ handed envelope room
-  unfolding issuedOf
-  issued-handed room e = unless-none envelope room e
-
-  pub buffer-handed : (out : List ℕ) → refusal ≡ 0 → envelopeAfter policy name account root out ≡ handedInto envelope out
-  unfolding envelopeAfter
-  buffer-handed out e = unless-into envelope out e
+  abbrev pub Refused : ℕ → Type 0
+  Refused = Refuses policy name account root (accountRefusal policy root account)
 
   -- a number before the buffer's: the answer has it and a 0, and the buffer stays as it was
-  pub record Refuses (n : ℕ) : Type 0 where
-    pub issues : (room : ℕ) → issuedOf policy name account root room ≡ refusedWritten n
-    pub leaves : (out : List ℕ) → envelopeAfter policy name account root out ≡ out
+  pub issue-refuses : {n : ℕ} → Refused n
+      → ((room : ℕ) → issuedOf policy name account root room ≡ refusedWritten n) × ((out : List ℕ) → envelopeAfter policy name account root out ≡ out)
+  unfolding issuedOf envelopeAfter
+  issue-refuses r = (r .issues, r .leaves)
 
-  refuses : {n : ℕ} → 0 < n → refusal ≡ n → Refuses n
-  refuses {n} some e = record {
-    issues = λ room. issued-refused room (omega arith) ∙ ap refusedWritten e;
-    leaves = λ out. buffer-refused out (omega arith);
-  }
+  pub issue-policy : 0 < policyRefusal policy → Refused (policyRefusal policy)
+  issue-policy = by-policy policy name account root (accountRefusal policy root account)
 
-  pub issue-policy : 0 < policyRefusal policy → Refuses (policyRefusal policy)
-  issue-policy bad = refuses bad (refusal-policy (λ e. omega arith))
-
-  -- no label found
-  pub asked-13 : AcceptedPolicy policy → labelAsked policy (labelCount policy) name ≡ Nothing → Refuses 13
-  asked-13 ok e = refuses (omega arith) (refusal-asked ok e ∙ refusal-13)
-
-  pub issue-13 : AcceptedPolicy policy → NoLabel policy name → Refuses 13
-  issue-13 ok none = asked-13 ok (asked-none policy name ok none)
-
-  -- label l found: its account and the root secret are refused under a number, or the envelope is handed out
-  module _ {l : ℕ} (ok : AcceptedPolicy policy) (at : labelAsked policy (labelCount policy) name ≡ At l) where
-    number-at : refusal ≡ accountRefusal policy root account l
-    number-at = refusal-asked ok at ∙ refusal-at l
-
-    pub number-refuses : {n : ℕ} → n ≡ accountRefusal policy root account l → 0 < n → Refuses n
-    number-refuses e some = refuses some (number-at ∙ sym e)
-
-    module _ {n : ℕ} (e : n ≡ accountRefusal policy root account l) (none : n ≡ 0) where
-      unrefused : refusal ≡ 0
-      unrefused = number-at ∙ sym e ∙ none
-
-      module _ {s : List ℕ} (made : s ≡ accountEnvelope policy root l account) where
-        asked-made : s ≡ envelope
-        asked-made = made ∙ sym (envelope-at at)
-
-        pub issued-at : (room : ℕ) {w : Written} → w ≡ handed s room → w ≡ issuedOf policy name account root room
-        issued-at room h = h ∙ ap (λ (t : List ℕ). handed t room) asked-made ∙ sym (issued-handed room unrefused)
-
-        pub buffer-at : (out : List ℕ) {after : List ℕ} → after ≡ handedInto s out → after ≡ envelopeAfter policy name account root out
-        buffer-at out h = h ∙ ap (λ (t : List ℕ). handedInto t out) asked-made ∙ sym (buffer-handed out unrefused)
+  pub issue-13 : AcceptedPolicy policy → NoLabel policy name → Refused 13
+  issue-13 = by-13 policy name account root (accountRefusal policy root account)
 
   module _ (l : ℕ) where
-    pub issue-14 : LabelOf policy name l → NoAccount policy l account → Refuses 14
-    issue-14 h none = number-refuses (h .accepted) (asked-label policy name (h .accepted) h) (sym (account-none policy root account l none)) (omega arith)
+    pub issue-14 : LabelOf policy name l → NoAccount policy l account → Refused 14
+    issue-14 h none = by-number policy name account root (accountRefusal policy root account) h (account-none policy root account l none) (omega arith)
 
-    pub issue-15 : AccountOf policy name l account → length root ≢ 32 → Refuses 15
+    pub issue-15 : AccountOf policy name l account → length root ≢ 32 → Refused 15
     issue-15 h ne =
-        number-refuses (h .label .accepted) (asked-label policy name (h .label .accepted) (h .label))
-        (sym (account-15 policy root account l (h .some) (h .within) ne)) (omega arith)
+        by-number policy name account root (accountRefusal policy root account) (h .label) (account-15 policy root account l (h .some) (h .within) ne) (omega arith)
 
     -- an existing account and a root secret of 32 bytes: the envelope is handed out
     module _ (h : AccountOf policy name l account) (e : length root ≡ 32) where
-      at : labelAsked policy (labelCount policy) name ≡ At l
-      at = asked-label policy name (h .label .accepted) (h .label)
-
       none : accountRefusal policy root account l ≡ 0
       none = account-given policy root account l (h .some) (h .within) e
 
-      pub issue-given : (room : ℕ) → issuedOf policy name account root room ≡ handed (accountEnvelope policy root l account) room
-      issue-given room = sym (issued-at (h .label .accepted) at refl none refl room refl)
-
       pub buffer-given : (out : List ℕ) → envelopeAfter policy name account root out ≡ handedInto (accountEnvelope policy root l account) out
-      buffer-given out = sym (buffer-at (h .label .accepted) at refl none refl out refl)
+      unfolding envelopeAfter
+      buffer-given = by-left policy name account root (accountRefusal policy root account) (h .label) none
 
       pub issue-16 : (room : ℕ) → room < length (accountEnvelope policy root l account) → issuedOf policy name account root room ≡ refusedWritten 16
-      issue-16 room short = issue-given room ∙ sym (handed-none (accountEnvelope policy root l account) room short)
+      unfolding issuedOf
+      issue-16 = by-16 policy name account root (accountRefusal policy root account) (h .label) none
 
       pub buffer-16 : (out : List ℕ) → length out < length (accountEnvelope policy root l account) → envelopeAfter policy name account root out ≡ out
-      buffer-16 out short = buffer-given out ∙ sym (left-none (accountEnvelope policy root l account) out short)
+      unfolding envelopeAfter
+      buffer-16 = by-kept policy name account root (accountRefusal policy root account) (h .label) none
 
       pub issue-written : (room : ℕ) → length (accountEnvelope policy root l account) ≤ room
           → issuedOf policy name account root room ≡ wrote (length (accountEnvelope policy root l account))
-      issue-written room fits = issue-given room ∙ room-handed (accountEnvelope policy root l account) room fits
+      unfolding issuedOf
+      issue-written = by-written policy name account root (accountRefusal policy root account) (h .label) none
 
   -- ---- the number answered is that of the row that holds
 
@@ -249,21 +175,21 @@ module _ (policy name : List ℕ) (account : ℕ) (root : List ℕ) where
 
       root-says : (l : ℕ) → AccountOf policy name l account → (b : Bool) → eqb (length root) 32 ≡ b → Answer (issuedOf policy name account root room .refusal)
       root-says l h true e = let r = eqb-true (length root) 32 e in room-says l h r (ltb room (length (accountEnvelope policy root l account))) refl
-      root-says l h false e = let r = eqb-false (length root) 32 e in as-number (row-15 h r) (issue-15 l h r .issues room) refl
+      root-says l h false e = let r = eqb-false (length root) 32 e in as-number (row-15 h r) (issue-refuses (issue-15 l h r) .0 room) refl
 
       count-says : (l : ℕ) → LabelOf policy name l → 0 < account → (b : Bool) → ltb (countOf policy l) account ≡ b → Answer (issuedOf policy name account root room .refusal)
-      count-says l h some true e = let none = inr (ltb-true (countOf policy l) account e) in as-number (row-14 h none) (issue-14 l h none .issues room) refl
+      count-says l h some true e = let none = inr (ltb-true (countOf policy l) account e) in as-number (row-14 h none) (issue-refuses (issue-14 l h none) .0 room) refl
       count-says l h some false e =
           root-says l (record { label = h; some = some; within = ltb-false (countOf policy l) account e }) (eqb (length root) 32) refl
 
       account-says : (l : ℕ) → LabelOf policy name l → (account ≡ 0) ⊎ (0 < account) → Answer (issuedOf policy name account root room .refusal)
-      account-says l h (inl e) = as-number (row-14 h (inl e)) (issue-14 l h (inl e) .issues room) refl
+      account-says l h (inl e) = as-number (row-14 h (inl e)) (issue-refuses (issue-14 l h (inl e)) .0 room) refl
       account-says l h (inr some) = count-says l h some (ltb (countOf policy l) account) refl
 
       asked-says : AcceptedPolicy policy → ((l : ℕ) × LabelOf policy name l) ⊎ NoLabel policy name → Answer (issuedOf policy name account root room .refusal)
       asked-says ok (inl h) = account-says (h .0) (h .1) (none-or-some account)
-      asked-says ok (inr none) = as-number (row-13 ok none) (issue-13 ok none .issues room) refl
+      asked-says ok (inr none) = as-number (row-13 ok none) (issue-refuses (issue-13 ok none) .0 room) refl
 
       go : (policyRefusal policy ≡ 0) ⊎ (0 < policyRefusal policy) → Answer (issuedOf policy name account root room .refusal)
       go (inl ok) = asked-says ok (asked-either policy name ok)
-      go (inr bad) = as-number (policys bad) (issue-policy bad .issues room) refl
+      go (inr bad) = as-number (policys bad) (issue-refuses (issue-policy bad) .0 room) refl

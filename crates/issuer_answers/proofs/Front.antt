@@ -24,10 +24,10 @@ use Rattle.policy_file.specs.File.{nameOf, countOf}
 use Rattle.policy_file.specs.Whole.{policyRefusal, labelCount, AcceptedPolicy}
 use Rattle.policy_file.specs.declared.Policy.{Policy}
 use Rattle.weights.specs.Tables.{entries, parentTable}
-use Rattle.issuer_answers.specs.Issue.{accountEnvelope, accountRefusal, askedRefusal, issueRefusal, askedEnvelope, issuedOf, envelopeAfter}
+use Rattle.issuer_answers.specs.Issue.{accountEnvelope, accountRefusal, askedRefusal, refusalBy, askedEnvelope, issuedBy, leftBy, issuedOf, envelopeAfter}
 use Rattle.issuer_answers.specs.Keys.{parentOf, labelKeyOf, labelAsked, refusedKey, keyAt, issuerKeyOf}
 use Rattle.issuer_answers.specs.Rows.{NoLabel, LabelOf}
-use Rattle.issuer_answers.proofs.Answers.{key-policy, key-asked, key-13, key-15, Refuses, issue-policy, issue-13, issue-14, issue-15}
+use Rattle.issuer_answers.proofs.Answers.{key-policy, key-asked, key-13, key-15, Refused, issue-policy, issue-13, issue-14, issue-15}
 use Rattle.issuer_answers.proofs.Asked.{asked-below, asked-label, asked-none, asked-either}
 
 -- ---- the policy
@@ -107,15 +107,15 @@ module _ (a b : List ℕ) (agree : Agree a b) where
         ∙ rw (key-at-same (labelAsked b (labelCount b) name) refl)
 
     module _ (account : ℕ) where
-      asked-number-same : (f : Found) → labelAsked b (labelCount b) name ≡ f → askedRefusal a root account f ≡ askedRefusal b root account f
+      asked-number-same : (f : Found) → labelAsked b (labelCount b) name ≡ f → askedRefusal (accountRefusal a root account) f ≡ askedRefusal (accountRefusal b root account) f
       unfolding askedRefusal
       asked-number-same (At l) e = account-same root l (asked-below b name (labelCount b) l e) account
       asked-number-same Nothing e = refl
 
-      number-same : issueRefusal a name account root ≡ issueRefusal b name account root
-      unfolding issueRefusal
+      number-same : refusalBy a name (accountRefusal a root account) ≡ refusalBy b name (accountRefusal b root account)
+      unfolding refusalBy
       number-same =
-          ap₂ (λ (s : Policy) (f : Found). cond (eqb (s .refusal) 0) (askedRefusal a root account f) (s .refusal)) (agree .verdict) (asked-same name)
+          ap₂ (λ (s : Policy) (f : Found). cond (eqb (s .refusal) 0) (askedRefusal (accountRefusal a root account) f) (s .refusal)) (agree .verdict) (asked-same name)
           ∙ rw (asked-number-same (labelAsked b (labelCount b) name) refl)
 
       envelope-found-same : (f : Found) → labelAsked b (labelCount b) name ≡ f
@@ -129,11 +129,11 @@ module _ (a b : List ℕ) (agree : Agree a b) where
       envelope-asked-same = envelope-found-same (labelAsked b (labelCount b) name) refl
 
       pub agree-issued : (room : ℕ) → issuedOf a name account root room ≡ issuedOf b name account root room
-      unfolding issuedOf
+      unfolding issuedOf issuedBy
       agree-issued room = ap₂ (λ (n : ℕ) (s : List ℕ). writtenUnless n s room) number-same envelope-asked-same
 
       pub agree-buffer : (out : List ℕ) → envelopeAfter a name account root out ≡ envelopeAfter b name account root out
-      unfolding envelopeAfter
+      unfolding envelopeAfter leftBy
       agree-buffer out = ap₂ (λ (n : ℕ) (s : List ℕ). bufferUnless n s out) number-same envelope-asked-same
 
 -- any front part of at least 2,828 bytes
@@ -165,11 +165,11 @@ module _ (policy name : List ℕ) where
       go (yes ok) = asked-says ok (asked-either policy name ok)
       go (no bad) = (policyRefusal policy, λ root other. key-policy policy name root bad)
 
-  issue-refused : (account : ℕ) → (n : ℕ) × ((root : List ℕ) → length root ≢ 32 → Refuses policy name account root n)
+  issue-refused : (account : ℕ) → (n : ℕ) × ((root : List ℕ) → length root ≢ 32 → Refused policy name account root n)
   issue-refused account = go (ℕ-discrete (policyRefusal policy) 0)
     where
       Issue : Type 0
-      Issue = (n : ℕ) × ((root : List ℕ) → length root ≢ 32 → Refuses policy name account root n)
+      Issue = (n : ℕ) × ((root : List ℕ) → length root ≢ 32 → Refused policy name account root n)
 
       account-says : (l : ℕ) → LabelOf policy name l → Dec (account ≡ 0) → Dec (countOf policy l < account) → Issue
       account-says l h (yes e) c = (14, λ root other. issue-14 policy name account root l h (inl e))
@@ -195,11 +195,13 @@ module _ (policy name front back : List ℕ) (long : 33 ≤ length front) where
 
   module _ (account : ℕ) where
     issued-root-same : (room : ℕ) → issuedOf policy name account (front ++ back) room ≡ issuedOf policy name account front room
+    unfolding issuedOf
     issued-root-same room =
         let r = issue-refused policy name account .1 in
         r (front ++ back) not-whole .issues room ∙ sym (r front (λ e. omega arith) .issues room)
 
     buffer-root-same : (out : List ℕ) → envelopeAfter policy name account (front ++ back) out ≡ envelopeAfter policy name account front out
+    unfolding envelopeAfter
     buffer-root-same out =
         let r = issue-refused policy name account .1 in
         r (front ++ back) not-whole .leaves out ∙ sym (r front (λ e. omega arith) .leaves out)

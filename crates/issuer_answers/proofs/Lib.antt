@@ -1,4 +1,5 @@
 pub mod Asked
+pub mod By
 pub mod Answers
 pub mod Zeros
 pub mod Words

@@ -8,7 +8,7 @@ use Rattle.issuer_answers.specs.Keys.{issuerKeyOf}
 use Rattle.issuer_answers.specs.Issue.{issuedOf}
 use Rattle.issuer_answers.specs.Rows.{KeyAnswered, given, IssueAnswered, policys, row-13, row-14, row-15, row-16, written}
 use Rattle.issuer_answers.specs.declared.IssuerKey.{IssuerKey}
-use Rattle.issuer_answers.proofs.Answers.{key-policy, key-asked, key-13, key-15, key-of-label, issue-policy, issue-13, issue-14, issue-15, issue-16, issue-written}
+use Rattle.issuer_answers.proofs.Answers.{key-policy, key-asked, key-13, key-15, key-of-label, issue-refuses, issue-policy, issue-13, issue-14, issue-15, issue-16, issue-written}
 use Rattle.issuer_answers.proofs.Asked.{asked-label, asked-none}
 
 abbrev key-number : IssuerKey → ℕ
@@ -26,9 +26,9 @@ key-only policy name root (given h e) = ap key-number (key-of-label policy name 
 
 pub issue-only : (policy name : List ℕ) (account : ℕ) (root : List ℕ) (room : ℕ) {n : ℕ} → IssueAnswered policy name account root room n
     → issuedOf policy name account root room .refusal ≡ n
-issue-only policy name account root room (policys bad) = ap issue-number (issue-policy policy name account root bad .issues room)
-issue-only policy name account root room (row-13 ok none) = ap issue-number (issue-13 policy name account root ok none .issues room)
-issue-only policy name account root room (row-14 {l} h none) = ap issue-number (issue-14 policy name account root l h none .issues room)
-issue-only policy name account root room (row-15 {l} h ne) = ap issue-number (issue-15 policy name account root l h ne .issues room)
+issue-only policy name account root room (policys bad) = ap issue-number (issue-refuses policy name account root (issue-policy policy name account root bad) .0 room)
+issue-only policy name account root room (row-13 ok none) = ap issue-number (issue-refuses policy name account root (issue-13 policy name account root ok none) .0 room)
+issue-only policy name account root room (row-14 {l} h none) = ap issue-number (issue-refuses policy name account root (issue-14 policy name account root l h none) .0 room)
+issue-only policy name account root room (row-15 {l} h ne) = ap issue-number (issue-refuses policy name account root (issue-15 policy name account root l h ne) .0 room)
 issue-only policy name account root room (row-16 {l} h e short) = ap issue-number (issue-16 policy name account root l h e room short)
 issue-only policy name account root room (written {l} h e fits) = ap issue-number (issue-written policy name account root l h e room fits)

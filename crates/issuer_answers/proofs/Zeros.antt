@@ -14,7 +14,7 @@ use Rattle.format.specs.declared.Found.the-variants.{At, Nothing}
 use Rattle.format.specs.declared.Found.{Found}
 use Rattle.policy_file.specs.Whole.{policyRefusal, labelCount}
 use Rattle.issuer_answers.specs.Keys.{labelAsked, refusedKey, keyAt, issuerKeyOf}
-use Rattle.issuer_answers.specs.Issue.{issueRefusal, askedEnvelope, issuedOf, envelopeAfter}
+use Rattle.issuer_answers.specs.Issue.{accountRefusal, refusalBy, askedEnvelope, issuedBy, leftBy, issuedOf, envelopeAfter}
 use Rattle.issuer_answers.specs.declared.IssuerKey.{IssuerKey}
 use Rattle.issuer_answers.proofs.Answers.{key-policy, key-asked}
 use Rattle.buffers.proofs.Unless.{unless-zeros, unless-unchanged, unless-within}
@@ -45,14 +45,14 @@ key-zeros policy name root = go (eqb (policyRefusal policy) 0) refl
 module _ (policy name : List ℕ) (account : ℕ) (root : List ℕ) where
   pub issue-zeros : (room : ℕ) → 0 < issuedOf policy name account root room .refusal
       → issuedOf policy name account root room ≡ refusedWritten (issuedOf policy name account root room .refusal)
-  unfolding issuedOf
-  issue-zeros room = unless-zeros (issueRefusal policy name account root) (askedEnvelope policy name account root) room
+  unfolding issuedOf issuedBy
+  issue-zeros room = unless-zeros (refusalBy policy name (accountRefusal policy root account)) (askedEnvelope policy name account root) room
 
   pub issue-unchanged : (out : List ℕ) → 0 < issuedOf policy name account root (length out) .refusal → envelopeAfter policy name account root out ≡ out
-  unfolding issuedOf envelopeAfter
-  issue-unchanged out = unless-unchanged (issueRefusal policy name account root) (askedEnvelope policy name account root) out
+  unfolding issuedOf issuedBy envelopeAfter leftBy
+  issue-unchanged out = unless-unchanged (refusalBy policy name (accountRefusal policy root account)) (askedEnvelope policy name account root) out
 
   pub issued-within : (out : List ℕ) (w : Written) (after : List ℕ) → w ≡ issuedOf policy name account root (length out)
       → after ≡ envelopeAfter policy name account root out → w .length ≤ length after
-  unfolding issuedOf envelopeAfter
-  issued-within out w after e f = unless-within (issueRefusal policy name account root) (askedEnvelope policy name account root) out w after e f
+  unfolding issuedOf issuedBy envelopeAfter leftBy
+  issued-within out w after e f = unless-within (refusalBy policy name (accountRefusal policy root account)) (askedEnvelope policy name account root) out w after e f

@@ -26,27 +26,34 @@ accountRefusal policy root account l =
     (cond (eqb (length root) 32) 0
     15))
 
--- 13, "name asked for is not in the policy, or not 8 bytes"
-unfoldable pub askedRefusal : (policy root : List ℕ) (account : ℕ) → Found → ℕ
-askedRefusal policy root account (At l) = accountRefusal policy root account l
-askedRefusal policy root account Nothing = 13
+-- 13, "name asked for is not in the policy, or not 8 bytes"; `number l` is what an account is refused under at label l
+unfoldable pub askedRefusal : (number : ℕ → ℕ) → Found → ℕ
+askedRefusal number (At l) = number l
+askedRefusal number Nothing = 13
 
--- the refusals before the buffer's: the policy's own, then 13, 14, 15
-unfoldable pub issueRefusal : (policy name : List ℕ) (account : ℕ) (root : List ℕ) → ℕ
-issueRefusal policy name account root =
+-- the refusals before the buffer's: the policy's own, then 13, then those of the account and the root secret
+unfoldable pub refusalBy : (policy name : List ℕ) (number : ℕ → ℕ) → ℕ
+refusalBy policy name number =
     cond (eqb (policyRefusal policy) 0)
-    (askedRefusal policy root account (labelAsked policy (labelCount policy) name))
+    (askedRefusal number (labelAsked policy (labelCount policy) name))
     (policyRefusal policy)
 
 -- the envelope of an account at the label asked for; none if no label has the name
 unfoldable pub askedEnvelope : (policy name : List ℕ) (account : ℕ) (root : List ℕ) → List ℕ
 askedEnvelope policy name account root = elim (labelAsked policy (labelCount policy) name) [ At l ↦ accountEnvelope policy root l account | Nothing ↦ [] ]
 
--- what `issue` answers, for a buffer of `room` bytes: the length of the envelope; 16, "buffer shorter than the envelope"
-unfoldable pub issuedOf : (policy name : List ℕ) (account : ℕ) (root : List ℕ) (room : ℕ) → Written
-issuedOf policy name account root room = writtenUnless (issueRefusal policy name account root) (askedEnvelope policy name account root) room
+-- what is answered, for a buffer of `room` bytes: the length of the envelope; 16, "buffer shorter than the envelope"
+unfoldable pub issuedBy : (policy name : List ℕ) (account : ℕ) (root : List ℕ) (number : ℕ → ℕ) (room : ℕ) → Written
+issuedBy policy name account root number room = writtenUnless (refusalBy policy name number) (askedEnvelope policy name account root) room
 
--- what it leaves: "An issue that succeeds writes the envelope from the buffer's start .. and changes no byte behind it"; with a refusal
+-- what is left: "An issue that succeeds writes the envelope from the buffer's start .. and changes no byte behind it"; with a refusal
 -- "lent buffers are unchanged"
+unfoldable pub leftBy : (policy name : List ℕ) (account : ℕ) (root : List ℕ) (number : ℕ → ℕ) (out : List ℕ) → List ℕ
+leftBy policy name account root number out = bufferUnless (refusalBy policy name number) (askedEnvelope policy name account root) out
+
+-- what `issue` answers and leaves: 14 and 15 by the counts in the policy
+unfoldable pub issuedOf : (policy name : List ℕ) (account : ℕ) (root : List ℕ) (room : ℕ) → Written
+issuedOf policy name account root room = issuedBy policy name account root (accountRefusal policy root account) room
+
 unfoldable pub envelopeAfter : (policy name : List ℕ) (account : ℕ) (root out : List ℕ) → List ℕ
-envelopeAfter policy name account root out = bufferUnless (issueRefusal policy name account root) (askedEnvelope policy name account root) out
+envelopeAfter policy name account root out = leftBy policy name account root (accountRefusal policy root account) out

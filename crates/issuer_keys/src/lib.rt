@@ -18,7 +18,7 @@ pub fn asked_label(policy: &[u8], labels: usize, name: &[u8]) -> Found
 }
 
 // The answer of `issuer_key` with a refusal.
-fn refuse_key(number: u8) -> IssuerKey
+pub fn refuse_key(number: u8) -> IssuerKey
     ensures { λ r. ⌜ r ≡ refusedKey number ⌝ }
 {
     IssuerKey {

@@ -9,4 +9,5 @@ pub mod Lawful
 pub mod Ordered
 pub mod Answer
 pub mod Front
+pub mod Recounted
 pub mod Examples

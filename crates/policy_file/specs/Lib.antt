@@ -1,4 +1,5 @@
 pub mod File
 pub mod Record
 pub mod Whole
+pub mod Counts
 pub mod Rows

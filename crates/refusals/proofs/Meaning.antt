@@ -18,7 +18,7 @@ use Rattle.refusals.specs.Line.{line, firstLine}
 use Rattle.refusals.specs.Refusals.{refusalTexts, refusalWords, tableLines, wordsLine, textOf, Terminated}
 use Rattle.refusals.proofs.FirstLine.{first-short, first-taken}
 
--- what numbers from 24 on mean
+-- what numbers from 27 on mean
 abbrev other : String
 other = "no such refusal"
 
@@ -34,18 +34,18 @@ module _ (rows : List (List ℕ)) (lines : map firstLine rows ≡ tableLines) (n
   unfolding firstLine
   row n = sym (List·getD-map firstLine rows n []) ∙ ap (λ (l : List (List ℕ)). getD l n []) lines
 
-  pub row-line : number < 24 → firstLine (getD rows number []) ≡ wordsLine number
+  pub row-line : number < 27 → firstLine (getD rows number []) ≡ wordsLine number
   unfolding line tableLines wordsLine refusalWords refusalTexts
   row-line h =
       let texts = map line refusalTexts in
       row number
-      ∙ List·getD-append texts (wordsLine 24 ∷ []) [] number h
+      ∙ List·getD-append texts (wordsLine 27 ∷ []) [] number h
       ∙ within texts number [] (line other) h
       ∙ List·getD-map line refusalTexts number other
 
-  pub last-line : 24 ≤ number → firstLine (getD rows 24 []) ≡ wordsLine number
+  pub last-line : 27 ≤ number → firstLine (getD rows 27 []) ≡ wordsLine number
   unfolding line tableLines wordsLine refusalWords refusalTexts
-  last-line h = row 24 ∙ ap line (sym (List·getD-eq-default refusalTexts other h))
+  last-line h = row 27 ∙ ap line (sym (List·getD-eq-default refusalTexts other h))
 
 -- up to 79 bytes, and no byte is 0
 unfoldable noZero : List ℕ → Bool

@@ -5,10 +5,10 @@ use Rattle.refusals.specs.Line.{line}
 use Rattle.refusals.specs.Refusals.{refusalTexts, refusalWords, wordsLine}
 
 -- numbers that need no place, and one that is not given
-pub words-account : wordsLine 14 ≡ line "the account number is 0 or above the label's number of accounts"
+pub words-account : wordsLine 14 ≡ line "the label has no account with this number"
 unfolding wordsLine refusalWords refusalTexts bytesOf line
 words-account = refl
 
-pub words-24 : wordsLine 24 ≡ line "no such refusal"
+pub words-27 : wordsLine 27 ≡ line "no such refusal"
 unfolding wordsLine refusalWords refusalTexts bytesOf line
-words-24 = refl
+words-27 = refl

@@ -9,7 +9,7 @@ use Rattle.decimals.specs.Worded.{newline}
 use Rattle.lists.specs.Buffer.{zeroFilled}
 use Rattle.refusals.specs.Line.{line}
 
--- what 0 to 23 mean; 0 is not a refusal
+-- what 0 to 26 mean; 0 is not a refusal
 unfoldable pub refusalTexts : List String
 refusalTexts =
     "accepted"
@@ -26,7 +26,7 @@ refusalTexts =
     ∷ "the length is not 2 plus the number of labels"
     ∷ "a byte is not the number of a strictly higher label, or the top's is not 0"
     ∷ "the policy has no label with this name"
-    ∷ "the account number is 0 or above the label's number of accounts"
+    ∷ "the label has no account with this number"
     ∷ "the root secret does not have 32 bytes"
     ∷ "the buffer is too short for what is to be written"
     ∷ "the header has fewer than 12 bytes, a mark other than EN, or account 0"
@@ -36,6 +36,9 @@ refusalTexts =
     ∷ "a key or message has more than 65,536 bytes"
     ∷ "not a sealed file, a text above 32,768 bytes, or a nonce that is not 12 bytes"
     ∷ "the tag differs: the file was altered, or sealed under another key"
+    ∷ "the number is not 1 to 4,096, or an account has or had it"
+    ∷ "the account is unknown or withdrawn"
+    ∷ "the account is held"
     ∷ []
 
 -- what a number means
@@ -46,9 +49,9 @@ refusalWords number = bytesOf (getD refusalTexts number "no such refusal")
 unfoldable pub wordsLine : (number : ℕ) → List ℕ
 wordsLine number = refusalWords number ++ newline
 
--- the lines of 0 to 23, then that of any other number
+-- the lines of 0 to 26, then that of any other number
 unfoldable pub tableLines : List (List ℕ)
-tableLines = map line refusalTexts ++ (wordsLine 24 ∷ [])
+tableLines = map line refusalTexts ++ (wordsLine 27 ∷ [])
 
 -- a text of 80 bytes for callers in C: the words, and zeros after them
 unfoldable pub textOf : (number : ℕ) → List ℕ

@@ -4,8 +4,8 @@ ghost use mathlib.Core.List.{map};
 ghost use Rattle.refusals.specs.Line.{firstLine};
 ghost use Rattle.refusals.specs.Refusals.{tableLines, wordsLine};
 
-// What 0 to 23 mean, then what any other number means: a line each, and spaces after it.
-const TABLE: [[u8; 80]; 25] = [
+// What 0 to 26 mean, then what any other number means: a line each, and spaces after it.
+const TABLE: [[u8; 80]; 28] = [
     *b"accepted\n                                                                       ",
     *b"the file is empty\n                                                              ",
     *b"fewer than 2 bytes are left, or the mark does not belong in this file\n          ",
@@ -20,7 +20,7 @@ const TABLE: [[u8; 80]; 25] = [
     *b"the length is not 2 plus the number of labels\n                                  ",
     *b"a byte is not the number of a strictly higher label, or the top's is not 0\n     ",
     *b"the policy has no label with this name\n                                         ",
-    *b"the account number is 0 or above the label's number of accounts\n                ",
+    *b"the label has no account with this number\n                                      ",
     *b"the root secret does not have 32 bytes\n                                         ",
     *b"the buffer is too short for what is to be written\n                              ",
     *b"the header has fewer than 12 bytes, a mark other than EN, or account 0\n         ",
@@ -30,10 +30,13 @@ const TABLE: [[u8; 80]; 25] = [
     *b"a key or message has more than 65,536 bytes\n                                    ",
     *b"not a sealed file, a text above 32,768 bytes, or a nonce that is not 12 bytes\n  ",
     *b"the tag differs: the file was altered, or sealed under another key\n             ",
+    *b"the number is not 1 to 4,096, or an account has or had it\n                      ",
+    *b"the account is unknown or withdrawn\n                                            ",
+    *b"the account is held\n                                                            ",
     *b"no such refusal\n                                                                ",
 ];
 
-fn table() -> [[u8; 80]; 25]
+fn table() -> [[u8; 80]; 28]
     ensures { λ r. ⌜ map firstLine r ≡ tableLines ⌝ }
 {
     TABLE
@@ -44,9 +47,9 @@ pub(crate) fn meaning(number: u8) -> [u8; 80]
     ensures { λ r. ⌜ firstLine r ≡ wordsLine number ⌝ }
 {
     let words = table();
-    if number < 24 {
+    if number < 27 {
         words[number as usize]
     } else {
-        words[24]
+        words[27]
     }
 }

@@ -1,6 +1,7 @@
 // Runs the vectors of FIPS 180-4, RFC 4231 and RFC 8439 and the worked examples of documents 01 and 02 that are run and not proved, one
 // line a case. The cases stand on standard input: how many there are, and for each its name, the operation, a number and four files;
 // what an operation does not take is 0 or empty. tests/vectors.py makes the files stdin and stdout.
+mod accounts;
 mod ciphers;
 mod envelopes;
 mod hashes;
@@ -26,7 +27,13 @@ fn answer(operation: u16, number: u16, a: &[u8], b: &[u8], c: &[u8], buffer: &mu
         11 => ciphers::tag(a, b),
         12 => ciphers::sealed(a, b, c, buffer),
         13 => modules::sealed(a, b, c, buffer),
-        _ => modules::opened(a, b, buffer),
+        14 => modules::opened(a, b, buffer),
+        15 => accounts::policy(a, b, buffer),
+        16 => accounts::plan(a, b),
+        17 => accounts::tree(a, b, c),
+        18 => accounts::key(a, b, c),
+        19 => accounts::envelope(a, b, c, number as u32, buffer),
+        _ => accounts::sealed(a, b, c, buffer),
     }
 }
 

@@ -1,7 +1,8 @@
-// Sealed module files: how many bytes are written, and the hash of the whole buffer.
+// Sealed module files.
 use crate::print;
 
-fn tell(refusal: u8, length: usize, buffer: &[u8]) {
+// How many bytes are written, and the hash of the whole buffer.
+pub(crate) fn tell(refusal: u8, length: usize, buffer: &[u8]) {
     if print::accepted(refusal) {
         print::counted(length as u64, b" bytes, ");
         let bytes = sha256::hash_bytes(buffer);

@@ -1,5 +1,7 @@
 // Policies, plans and offered trees.
 use crate::print;
+use plan_answers::Plan;
+use plan_answers::Weighed;
 
 // How many labels and pairs a policy has.
 pub(crate) fn policy(file: &[u8]) {
@@ -27,9 +29,8 @@ fn planned_labels(labels: usize, parents: [u8; 64], weights: [u32; 64], sizes: [
     }
 }
 
-// A policy's plan: for each label its parent, weight and set size, and the total.
-pub(crate) fn plan(file: &[u8]) {
-    let p = planner::plan_policy(file);
+// For each label its parent, weight and set size, and the total.
+pub(crate) fn tell_plan(p: Plan) {
     if print::accepted(p.refusal) {
         let parents = p.parents;
         let weights = p.weights;
@@ -40,9 +41,13 @@ pub(crate) fn plan(file: &[u8]) {
     }
 }
 
+// A policy's plan.
+pub(crate) fn plan(file: &[u8]) {
+    tell_plan(planner::plan_policy(file));
+}
+
 // The total of an offered tree, and whether it is the least.
-pub(crate) fn tree(file: &[u8], offered: &[u8]) {
-    let w = weighing::weigh(file, offered);
+pub(crate) fn tell_tree(w: Weighed) {
     if print::accepted(w.refusal) {
         print::counted(w.total as u64, b", ");
         if !w.least {
@@ -50,4 +55,9 @@ pub(crate) fn tree(file: &[u8], offered: &[u8]) {
         }
         io::write_all(1, b"least");
     }
+}
+
+// An offered tree of a policy.
+pub(crate) fn tree(file: &[u8], offered: &[u8]) {
+    tell_tree(weighing::weigh(file, offered));
 }

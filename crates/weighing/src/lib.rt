@@ -17,7 +17,7 @@ fn total_of(labels: usize, counts: &[u16; 64], rows: &[[bool; 64]; 64], parents:
 }
 
 // The answer with a refusal.
-fn refused(number: u8) -> Weighed
+pub fn refused(number: u8) -> Weighed
     ensures { λ r. ⌜ r ≡ refusedWeighed number ⌝ }
 {
     Weighed {

@@ -5,22 +5,26 @@ use native.Mathlib.Omega.{arith}
 use lib.ListN.{length, replicate}
 use borrow.Author.Needs.{needs}
 use Rattle.buffers.specs.Handed.{refusedWritten}
-use Rattle.issuer_answers.proofs.Answers.{account-whole, issue-policy, asked-13, number-refuses, issued-at, buffer-at}
+use Rattle.issuer_answers.proofs.Answers.{account-whole}
+use Rattle.issuer_answers.proofs.By.{by-policy, by-asked-13, number-refuses, issued-at, buffer-at}
+use Rattle.issuer_answers.specs.Issue.{accountRefusal, issuedOf, envelopeAfter}
 use Rattle.issuer_keys.proofs.Tables.{plan-number, plan-within, plan-accepted, plan-hung, asked-told, told-below, told-within}
 use Rattle.issuer.proofs.Tables.{plan-rows, envelope-made}
 use Rattle.issuer.proofs.issue.Statement.{statement}
 use Rattle.issuer.proofs.issue.Tie as tie
 
 returns : tie.Need-returns
+unfolding issuedOf envelopeAfter
 returns c =
     let p = c .before .before .before in
     let a = p .before .before .before .before .before .before .args in
     let out = a .envelope .now in
     let number = plan-number (a .policy .now) (p .plan-order .ensures .0) in
-    let refused = issue-policy (a .policy .now) (a .name .now) (a .account) (a .root .now) (omega arith) in
+    let refused = by-policy (a .policy .now) (a .name .now) (a .account) (a .root .now) (accountRefusal (a .policy .now) (a .root .now) (a .account)) (omega arith) in
     (c .refuse .ensures ∙ ap refusedWritten number ∙ sym (refused .issues (length out)), sym (refused .leaves out))
 
 returns-2 : tie.Need-returns-2
+unfolding issuedOf envelopeAfter
 returns-2 c =
     let n = c .before .before in
     let l = n .before .before in
@@ -31,10 +35,11 @@ returns-2 c =
     let same = p .plan-order .ensures .0 in
     let ok = plan-accepted (a .policy .now) same (f .before .if1 .left) in
     let at = asked-told (a .policy .now) same (a .name .now) (f .asked-label .ensures) (l .l .given .1) in
-    let refused = number-refuses (a .policy .now) (a .name .now) (a .account) (a .root .now) ok at (n .account-refusal .ensures) (omega arith) in
+    let refused = number-refuses (a .policy .now) (a .name .now) (a .account) (a .root .now) (accountRefusal (a .policy .now) (a .root .now) (a .account)) ok at (n .account-refusal .ensures) (omega arith) in
     (c .refuse2 .ensures ∙ sym (refused .issues (length out)), sym (refused .leaves out))
 
 returns-3 : tie.Need-returns-3
+unfolding issuedOf envelopeAfter
 returns-3 c =
     let i = c .before .before in
     let s = i .before .before .before .before in
@@ -51,11 +56,12 @@ returns-3 c =
     let none = s .before .before .if2 .left in
     let whole = account-whole (a .policy .now) (a .root .now) (a .account) (l .l .given .0 .0) number none in
     let made = envelope-made (a .policy .now) same (a .root .now) whole (s .read-secret .ensures) (l .l .given .0 .0) (a .account) (p .plan-order .ensures .1 ∙ plan-rows (a .policy .now) same (f .before .if1 .left) (replicate 64 (replicate 64 false))) in (
-      issued-at (a .policy .now) (a .name .now) (a .account) (a .root .now) ok at number none made (length out) (i .issue-label .ensures .0),
-      buffer-at (a .policy .now) (a .name .now) (a .account) (a .root .now) ok at number none made out (i .issue-label .ensures .1),
+      issued-at (a .policy .now) (a .name .now) (a .account) (a .root .now) (accountRefusal (a .policy .now) (a .root .now) (a .account)) ok at number none made (length out) (i .issue-label .ensures .0),
+      buffer-at (a .policy .now) (a .name .now) (a .account) (a .root .now) (accountRefusal (a .policy .now) (a .root .now) (a .account)) ok at number none made out (i .issue-label .ensures .1),
     )
 
 returns-4 : tie.Need-returns-4
+unfolding issuedOf envelopeAfter
 returns-4 c =
     let f = c .before .before .before in
     let p = f .before .before .before in
@@ -64,7 +70,7 @@ returns-4 c =
     let same = p .plan-order .ensures .0 in
     let ok = plan-accepted (a .policy .now) same (f .before .if1 .left) in
     let none = asked-told (a .policy .now) same (a .name .now) (f .asked-label .ensures) (c .before .enum-told .given .1) in
-    let refused = asked-13 (a .policy .now) (a .name .now) (a .account) (a .root .now) ok none in
+    let refused = by-asked-13 (a .policy .now) (a .name .now) (a .account) (a .root .now) (accountRefusal (a .policy .now) (a .root .now) (a .account)) ok none in
     (c .refuse3 .ensures ∙ sym (refused .issues (length out)), sym (refused .leaves out))
 
 plan-order-requires : tie.Need-plan-order-requires

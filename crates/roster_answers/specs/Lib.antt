@@ -1,0 +1,7 @@
+pub mod Rostered
+pub mod Counted
+pub mod Issue
+pub mod Standings
+pub mod RosterText
+pub mod Records
+pub mod Rows

@@ -1,0 +1,10 @@
+pub mod Rosters
+pub mod Entries
+pub mod Meaning
+pub mod Passing
+pub mod Stopping
+pub mod Demand1
+pub mod Counted
+pub mod CountsSum
+pub mod Worked
+pub mod Places

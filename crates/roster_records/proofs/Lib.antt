@@ -1,0 +1,4 @@
+pub mod Alone
+pub mod Law
+pub mod Opened
+pub mod WithTarget

@@ -41,9 +41,9 @@ VERSION := $(shell sed -nE 's/^pub const VERSION: .*b"([0-9]+\.[0-9]+\.[0-9]+)";
 NUMBERS := $(subst ., ,$(VERSION))
 MAJOR := $(word 1,$(NUMBERS))
 
-# What belongs to the issuer and what to the desk. A part is a crate, and one object of the library; the last is in both.
+# What belongs to the issuer and what to the desk. A part is a static library of rt, and one object of the library for C; the last is in both.
 SIDES := issuer desk
-PARTS_issuer := hash_c policy_c plan_c growth_c issuer_c seal_c roster_c roster_plans_c roster_issuer_c refusals_c
+PARTS_issuer := hash_c policy_exports plan_c growth_c issuer_c seal_c roster_c roster_plans_c roster_issuer_c refusals_c
 PARTS_desk := desk_c open_c refusals_c
 PROGRAMS_issuer := build/bin/yendlowa build/bin/yendlowa-encode
 PROGRAMS_desk := build/bin/yendlowa-desk
@@ -55,13 +55,13 @@ shared = build/shared/libyendlowa-$1.so.$(VERSION)
 links = build/shared/libyendlowa-$1.so.$(MAJOR) build/shared/libyendlowa-$1.so
 built = $(PROGRAMS_$1) $(MANUALS_$1) $(call headers,$1) $(call archive,$1) $(call shared,$1)
 
-PARTS := $(sort $(PARTS_issuer) $(PARTS_desk)) issuer_program desk_program
+PARTS := $(sort $(PARTS_issuer) $(PARTS_desk))
 PROGRAMS := $(PROGRAMS_issuer) $(PROGRAMS_desk)
 MANUALS := $(MANUALS_issuer) $(MANUALS_desk)
 HEADERS := $(sort $(foreach side,$(SIDES),$(call headers,$(side))))
 ARCHIVES := $(foreach side,$(SIDES),$(call archive,$(side)))
 SHARED := $(foreach side,$(SIDES),$(call shared,$(side)))
-FOLDERS := $(addprefix build/,bin include lib man obj shared)
+FOLDERS := $(addprefix build/,bin include lib log man obj shared test)
 
 COMPARE := build/compare
 BENCH := build/bench
@@ -78,13 +78,15 @@ $(error PREFIX is not used: say prefix=$(PREFIX))
 endif
 
 # What only builds is built by as many jobs as there are cores, at most 4 and one for each 2 GB of memory, unless make, or a make above it, has been told a number (-j).
-# If one of the goals does more than build, they come one after the other, on one core.
+# If one of the goals does more than build, they come one after the other, on one core. rt proves as many crates at a time as there are jobs.
 GOALS := $(or $(MAKECMDGOALS),all)
 TOLD := $(shell printf %s "$$MAKEFLAGS")
+FITTING = $(shell awk -v cores="$$(nproc)" '/^MemAvailable:/ { n = int($$2 / 2097152) } END { if (n > cores) n = cores; if (n > 4) n = 4; if (n < 1) n = 1; print n }' /proc/meminfo)
+JOBS = $(or $(firstword $(patsubst -j%,%,$(filter -j%,$(TOLD)))),$(FITTING))
 ifneq ($(filter-out all lib programs install install-issuer install-desk build/%,$(GOALS)),)
 .NOTPARALLEL:
 else ifeq ($(findstring -j,$(TOLD)),)
-MAKEFLAGS += -j$(shell awk -v cores="$$(nproc)" '/^MemAvailable:/ { n = int($$2 / 2097152) } END { if (n > cores) n = cores; if (n > 4) n = 4; if (n < 1) n = 1; print n }' /proc/meminfo)
+MAKEFLAGS += -j$(FITTING)
 endif
 
 .PHONY: all lib programs install install-issuer install-desk uninstall check test compare fuzz bench clean help
@@ -100,34 +102,31 @@ programs: $(PROGRAMS) $(MANUALS)
 help:
 	@sed -n 's/^## //p' Makefile
 
-# ---- proofs and objects. Every crate is proved by a call of 'rt check' of its own, as soon as what it uses is proved; one call for all of them would leave a core
-# idle for a fifth of the time. What a crate's rule makes is rt's own note that it is proved, target/stamp/NAME; rt leaves that alone if the crate's files are what they
-# were, hence the touch; its date is that of the start, so that a file changed meanwhile is newer. 'rt staticlib' proves a part's crate and compiles it.
+# ---- proofs and objects. One call of 'rt all check' proves every crate, each as soon as what it uses is proved. What it proved stays in crates/*/out, and 'rt lib' and
+# 'rt run' start from that: they check a part's own crate again and compile it. Calls of rt in one checkout wait for one another, so only the first has several jobs. rt itself
+# says whether a crate is proved; make only decides when to ask it. What a call makes gets the date of the call's start, so that a file changed meanwhile is newer.
 
-CRATES := $(shell sed -nE 's/^([a-z0-9_]+):.*/\1/p' crates.txt)
-# A word CRATE:USED for each crate that a crate uses, the kit's too.
-USES := $(shell awk '/^[a-z]/ { for (i = 2; i <= NF; i++) print $$1 $$i }' crates.txt)
+# The files of each crate and their folders, so that a file that was removed counts.
+FILES := $(shell find crates -mindepth 2 \( -name must-fail -o -name out -o -name '*[\# ]*' \) -prune -o -print)
 
-# What the proof of a crate depends on: the list of crates, its files, its folders, so that a file that was removed counts, and the proofs of what it uses.
-FILES := $(shell find crates \( -name must-fail -o -name '*[\# ]*' \) -prune -o -print)
-files = $(filter crates/$1 crates/$1/%,$(FILES))
-used = $(filter $(CRATES),$(patsubst $1:%,%,$(filter $1:%,$(USES))))
-rests = crates.txt $(call files,$1) $(patsubst %,target/stamp/%,$(call used,$1))
+# A word MADE:CRATE for each crate that a part or a program is made of, itself among them.
+MADE_OF := $(shell awk -v made="$(PARTS) issuer_program desk_program plan" ' \
+    /^[a-z]/ { crate = $$1; sub(/:$$/, "", crate); for (i = 2; i <= NF; i++) if ($$i != "staticlib:") uses[crate] = uses[crate] " " $$i } \
+    function walk(top, crate, list, n, i) { if (seen[top, crate]++) return; print top ":" crate; n = split(uses[crate], list, " "); for (i = 1; i <= n; i++) walk(top, list[i]) } \
+    END { n = split(made, tops, " "); for (k = 1; k <= n; k++) walk(tops[k], tops[k]) }' crates.txt)
+rests = crates.txt $(filter $(patsubst $1:%,crates/%/%,$(filter $1:%,$(MADE_OF))),$(FILES))
 
-# A folder in which rt sees the crates and what is proved of them, but keeps what it notes of a run to itself, so that several can run at once: $(call aside,CRATE)
-aside = mkdir -p target/rlib target/stamp build/rt/$1/target && ln -sfn ../../../crates.txt ../../../crates build/rt/$1 && ln -sfn ../../../../target/rlib ../../../../target/stamp build/rt/$1/target
-# $(call run,COMMAND,CRATE): what rt says is shown if it fails. The lock is for a make that was ended while rt went on.
-run = $(call aside,$2) && cd build/rt/$2 && touch began && { RT_JOBS=1 flock lock ../../../scripts/rt $1 $2 >log 2>&1 || { cat log; exit 1; }; }
+# $(call rt,NAME,FOLDER,WORDS): calls rt in a folder. What it says goes to build/log/NAME, and is shown if it fails.
+rt = touch build/log/$1.began && { ( cd $2 && "$(CURDIR)/scripts/rt" $3 ) >build/log/$1 2>&1 || { cat build/log/$1; exit 1; }; }
 
-$(foreach crate,$(CRATES),$(eval target/stamp/$(crate): $(call rests,$(crate))))
-$(CRATES:%=target/stamp/%): target/stamp/%:
-	@$(call run,check,$*) && sed -n 's/^rt: \($* proved ([0-9]* s)\)$$/  \1/p' log
-	@touch -c -r build/rt/$*/began $@
+build/log/proved: crates.txt $(FILES) | build/log
+	@$(call rt,all,.,all check --jobs $(JOBS)) && echo "  every crate is proved"
+	@touch $@ && touch -r build/log/all.began $@
 
 $(foreach part,$(PARTS),$(eval build/obj/$(part).o: $(call rests,$(part))))
-$(PARTS:%=build/obj/%.o): build/obj/%.o: | build/obj
-	@$(call run,staticlib,$*) && echo "  $* proved and built"
-	@cd build/obj && ar x ../rt/$*/target/staticlib/lib$*.a $*.o && touch -r ../rt/$*/began $*.o
+$(PARTS:%=build/obj/%.o): build/obj/%.o: | build/log/proved build/obj
+	@$(call rt,$*,crates/$*,lib) && echo "  $* built"
+	@cd build/obj && ar x ../../crates/$*/out/lib$*.a $*.o && touch -r ../log/$*.began $*.o
 
 # ---- libraries
 
@@ -142,8 +141,8 @@ build/shared/%.map: include/yendlowa_%.h include/yendlowa_refusals.h | build/sha
 
 $(SHARED): build/shared/libyendlowa-%.so.$(VERSION): build/shared/%.map
 	@$(CC) -shared $(CFLAGS) $(LDFLAGS) $(HARDENED) -Wl,-soname,libyendlowa-$*.so.$(MAJOR) -Wl,--version-script=$< $(filter %.o,$^) -o $@
-	@ln -sf $(@F) build/shared/libyendlowa-$*.so.$(MAJOR)
-	@ln -sf libyendlowa-$*.so.$(MAJOR) build/shared/libyendlowa-$*.so
+	@cp $@ build/shared/libyendlowa-$*.so.$(MAJOR)
+	@cp $@ build/shared/libyendlowa-$*.so
 
 build/include/%.h: include/%.h | build/include
 	@cp $< $@
@@ -151,13 +150,21 @@ build/include/%.h: include/%.h | build/include
 build/include/yendlowa_version.h: include/yendlowa_version.h.in $(VERSION_FILE) | build/include
 	@sed -e 's/@VERSION@/$(VERSION)/' -e 's/@MAJOR@/$(MAJOR)/' -e 's/@MINOR@/$(word 2,$(NUMBERS))/' -e 's/@PATCH@/$(word 3,$(NUMBERS))/' $< >$@
 
-# ---- programs: the proved function, one line of C that calls it, and the kit's os library, which rt names
+# ---- programs: what 'rt run' leaves in its crate's out/. It runs each once, with words that need no file.
 
-build/bin/yendlowa: build/obj/issuer_program.o
-build/bin/yendlowa-desk: build/obj/desk_program.o
-build/bin/yendlowa build/bin/yendlowa-desk: build/bin/%: programs/%.c | build/bin
-	@os=$$(sed -nE 's/.*; link (.*) beside it$$/\1/p' $(patsubst build/obj/%.o,build/rt/%/log,$(filter %.o,$^))); \
-	$(CC) $(CPPFLAGS) $(CFLAGS) $(LDFLAGS) $(HARDENED) $^ "$${os:?rt has named no os library}" -o $@
+build/bin/yendlowa: crate := issuer_program
+build/bin/yendlowa: words := -- --version
+build/bin/yendlowa: $(call rests,issuer_program)
+build/bin/yendlowa-desk: crate := desk_program
+build/bin/yendlowa-desk: words := -- --version
+build/bin/yendlowa-desk: $(call rests,desk_program)
+# 01's program, which only the tests run; it reads standard input, which is empty here.
+build/test/plan: crate := plan
+build/test/plan: words :=
+build/test/plan: $(call rests,plan)
+build/bin/yendlowa build/bin/yendlowa-desk build/test/plan: | build/log/proved build/bin build/test
+	@$(call rt,$(crate),crates/$(crate),run $(words)) && echo "  $(@F) built"
+	@cp crates/$(crate)/out/$(crate) $@ && touch -r build/log/$(crate).began $@
 
 build/bin/yendlowa-encode: scripts/yendlowa-encode $(VERSION_FILE) | build/bin
 	@sed 's/^version=@VERSION@$$/version=$(VERSION)/' $< >$@
@@ -184,7 +191,8 @@ install-issuer install-desk: install-%:
 	$(INSTALL_PROGRAM) $(PROGRAMS_$*) "$(DESTDIR)$(bindir)"
 	$(INSTALL_DATA) $(call archive,$*) "$(DESTDIR)$(libdir)"
 	$(INSTALL_PROGRAM) $(call shared,$*) "$(DESTDIR)$(libdir)"
-	cp -P $(call links,$*) "$(DESTDIR)$(libdir)"
+	ln -sf libyendlowa-$*.so.$(VERSION) "$(DESTDIR)$(libdir)/libyendlowa-$*.so.$(MAJOR)"
+	ln -sf libyendlowa-$*.so.$(MAJOR) "$(DESTDIR)$(libdir)/libyendlowa-$*.so"
 	$(INSTALL_DATA) $(call headers,$*) "$(DESTDIR)$(includedir)"
 	$(INSTALL_DATA) $(MANUALS_$*) "$(DESTDIR)$(mandir)/man1"
 	sed $(filled) pkgconfig/yendlowa-$*.pc.in >"$(DESTDIR)$(pkgconfigdir)/yendlowa-$*.pc"
@@ -204,8 +212,6 @@ uninstall:
 # ---- tests
 
 check:
-	@$(MAKE) -s --no-print-directory lib programs
-	@scripts/rt check plan >build/plan.log 2>&1 || { cat build/plan.log; exit 1; }
 	@tests/run quick
 
 test:
@@ -233,4 +239,4 @@ $(YARDSTICKS): build/%.o: tests/bench/%.c | build/lib
 	@$(CC) -O3 -Wall -Wextra -c $< -o $@
 
 clean:
-	rm -rf build target
+	rm -rf build crates/*/out

@@ -105,7 +105,7 @@ module _ (s : List ℕ) (some : length s / 16 * 16 < length s) where
   rest_whole : rest ≡ drop at s
   rest_whole = take_all (length s - at) (drop at s) (omega (arith, length-drop at s))
 
-  pub padded_copied : (r a : ℕ) {b d : ℕ} {last : List ℕ} → b ≡ absorbed r a s (length s / 16) → last ≡ take (length rest) rest ++ drop (length rest) (replicate 16 0)
+  pub padded_copied : (r a : ℕ) {b d : ℕ} {last : List ℕ} → b ≡ absorbed r a s (length s / 16) → last ≡ rest ++ drop (length rest) (replicate 16 0)
       → d ≡ absorbed r b last (length last / 16) → d ≡ absorbed r a (padded s) (length (padded s) / 16)
   padded_copied r a {b} {d} {last} e f g =
       let size : length rest ≤ 16 = omega (arith, ap length rest_whole, rest_length s at refl some) in

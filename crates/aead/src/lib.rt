@@ -1,4 +1,6 @@
 // The AEAD construction ChaCha20-Poly1305 (RFC 8439, sections 2.6 and 2.8): ciphertext and tag.
+#![tactic(auto)]
+
 ghost use Rattle.std.specs.Prelude.{◌≡◌, ◌++◌, ◌-◌, ◌*◌, ◌/◌, ◌%◌, ◌^◌, ◌≤◌, length};
 ghost use Rattle.little_endian.specs.LittleEndian.{little_bytes};
 ghost use Rattle.poly1305_limbs.specs.Prime.{prime};
@@ -26,7 +28,8 @@ fn absorb_padded(h: Accumulator, r: Multiplier, message: &[u8]) -> Accumulator
         return whole;
     }
     let mut last = [0u8; 16];
-    bytes::copy(&message[at..], &mut last);
+    let rest = &message[at..];
+    last[..rest.len()].copy_from_slice(rest);
     poly1305::absorb(whole, r, &last)
 }
 

@@ -2,7 +2,7 @@
 use Prim.Native.Nat.{ℕ}
 use mathlib.Core.Bool.{Bool, true, false, false≢true}
 use mathlib.Core.List.{List}
-use mathlib.Core.Logic.{◌↔◌, ⊎_elim, inl, inr}
+use mathlib.Core.Logic.{◌↔◌, ⊎_elim, inr}
 use mathlib.Core.Path.{◌≡◌, refl, sym, ◌∙◌}
 use Rattle.format.proofs.Bytes.{same_true, differ}
 use Rattle.format.specs.Bytes.{same_bytes}

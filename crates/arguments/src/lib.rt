@@ -1,24 +1,58 @@
 // A program's arguments: put into a buffer, compared with a word, quoted where they are refused.
+#![tactic(auto)]
+
 ghost use Rattle.std.specs.Prelude.{true, ◌↔◌, ◌≡◌};
 ghost use Rattle.format.specs.Bytes.{same_bytes};
 ghost use Rattle.io.specs.Counts.{IsPrefixLen};
 ghost use Rattle.arguments.specs.Asked.{AsksHelp};
 
+use std::env::{Env, FillError};
+use std::io::{Error, ErrorKind};
+
+// Whether there is an argument i; the program's name is argument 0.
+fn is_there(rt: HostRuntime, i: usize) -> bool {
+    let mut first = [0u8; 1];
+    match rt.arg(i, &mut first) {
+        Err(FillError::NotPresent) => false,
+        _ => true,
+    }
+}
+
+// The number of arguments, with the program's name.
+pub fn count(rt: HostRuntime) -> usize {
+    for i in 0..usize::MAX {
+        if !is_there(rt, i) {
+            return i;
+        }
+    }
+    usize::MAX
+}
+
 // Puts argument i at the start of the buffer, as much of it as the buffer holds, and answers how many bytes that is.
-pub fn argument(i: usize, buffer: &mut [u8]) -> usize
+pub fn argument(rt: HostRuntime, i: usize, buffer: &mut [u8]) -> usize
     ensures { IsPrefixLen result buffer.new }
 {
-    let length = os::arg(i, buffer);
-    if os::errno() == libc::ENAMETOOLONG {
-        return buffer.len();
+    match rt.arg(i, buffer) {
+        Ok(length) => length,
+        Err(FillError::TooLong) => {
+            return buffer.len();
+        }
+        Err(FillError::NotPresent) => 0,
     }
-    length
+}
+
+// A path as the system's calls take it here. One that is not UTF-8 names no file.
+pub fn path(bytes: &[u8]) -> Result<&str, Error> {
+    match std::str::from_utf8(bytes) {
+        Ok(text) => Ok(text),
+        Err(_) => { Err(Error::new(ErrorKind::InvalidFilename, "a name that is not UTF-8")) }
+    }
 }
 
 // Whether argument i is this word.
-pub fn is_argument(i: usize, word: &[u8]) -> bool {
+pub fn is_argument(rt: HostRuntime, i: usize, word: &[u8]) -> bool {
     let mut typed = io::buffer();
-    let length = argument(i, &mut typed);
+    let length = argument(rt, i, &mut typed);
     check::same(&typed[..length], word)
 }
 
@@ -43,18 +77,18 @@ pub fn asks_help(typed: &[u8]) -> bool
 }
 
 // Whether argument i looks like an option: a dash, then at least one byte, the first of which is no digit.
-pub fn is_option(i: usize) -> bool {
+pub fn is_option(rt: HostRuntime, i: usize) -> bool {
     let mut typed = io::buffer();
-    let length = argument(i, &mut typed);
+    let length = argument(rt, i, &mut typed);
     1 < length && typed[0] == b'-' && (typed[1] < b'0' || b'9' < typed[1])
 }
 
 // The first argument from i on that looks like an option; the number of arguments where there is none.
-pub fn find_option(i: usize) -> usize {
-    let count = os::arg_count();
+pub fn find_option(rt: HostRuntime, i: usize) -> usize {
+    let count = count(rt);
     let mut next = i;
     while next < count {
-        if is_option(next) {
+        if is_option(rt, next) {
             return next;
         }
         next += 1;
@@ -63,35 +97,35 @@ pub fn find_option(i: usize) -> usize {
 }
 
 // Puts the label name that argument i says at the start of the buffer, padded as the operations take it.
-pub fn name_argument(i: usize, name: &mut [u8]) -> usize
+pub fn name_argument(rt: HostRuntime, i: usize, name: &mut [u8]) -> usize
     ensures { IsPrefixLen result name.new }
 {
     let mut typed = io::buffer();
-    let length = argument(i, &mut typed);
+    let length = argument(rt, i, &mut typed);
     let padded = command::pad_name(&typed[..length], name);
     padded.length
 }
 
 // Quotes argument i, or says that it is standard input where there is none.
-fn tell_typed(i: usize) {
-    if os::arg_count() <= i {
-        messages::tell(b"standard input");
+fn tell_typed(rt: HostRuntime, i: usize) {
+    if count(rt) <= i {
+        messages::tell(rt, b"standard input");
         return;
     }
     let mut typed = io::buffer();
-    let length = argument(i, &mut typed);
-    messages::tell_quoted(&typed[..length]);
+    let length = argument(rt, i, &mut typed);
+    messages::tell_quoted(rt, &typed[..length]);
 }
 
 // Opens a line about argument i.
-pub fn open_about(program: &[u8], i: usize) {
-    messages::open_line(program);
-    tell_typed(i);
-    messages::tell(b": ");
+pub fn open_about(rt: HostRuntime, program: &[u8], i: usize) {
+    messages::open_line(rt, program);
+    tell_typed(rt, i);
+    messages::tell(rt, b": ");
 }
 
 // Tells why argument i is refused.
-pub fn tell_argument(program: &[u8], i: usize, number: u8) {
-    open_about(program, i);
-    reasons::tell_words(number);
+pub fn tell_argument(rt: HostRuntime, program: &[u8], i: usize, number: u8) {
+    open_about(rt, program, i);
+    reasons::tell_words(rt, number);
 }

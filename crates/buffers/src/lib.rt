@@ -1,11 +1,13 @@
 // Bytes written into a lent buffer, and bytes handed out into one that may have no room for them.
+#![tactic(auto)]
+
 ghost use Rattle.std.specs.Prelude.{◌≡◌, ◌+◌, ◌≤◌, length};
 ghost use Rattle.buffers.specs.Handed.{refused_written, handed, handed_into};
 ghost use Rattle.buffers.specs.Put.{Put};
 
 // How many bytes were written; 0 with a refusal. `zeros` is always 0: a caller in C gets no byte that no contract speaks of.
 #[repr(C)]
-#[derive(Drop)]
+#[derive(Clone, Copy)]
 pub struct Written {
     pub refusal: u8,
     pub zeros: [u8; 7],
@@ -29,7 +31,7 @@ pub fn put_bytes(out: &mut [u8], at: usize, bytes: &[u8]) -> usize
     ensures { Put out.old out.new at bytes.now result }
 {
     let end = at + bytes.len();
-    bytes::copy(bytes, &mut out[at..end]);
+    out[at..end].copy_from_slice(bytes);
     end
 }
 

@@ -1,4 +1,6 @@
 // ChaCha20 encryption (RFC 8439, section 2.4), in place.
+#![tactic(auto)]
+
 ghost use Rattle.std.specs.Prelude.{◌≡◌, ◌+◌, ◌/◌, ◌^◌, ◌≤◌, min, length};
 ghost use Rattle.chacha20.specs.Encryption.{xored, encrypted};
 

@@ -1,10 +1,12 @@
 // The ChaCha20 block function (RFC 8439, sections 2.1 to 2.3).
+#![tactic(auto)]
+
 ghost use Rattle.std.specs.Prelude.{◌≡◌, ◌+◌, ◌/◌, ◌<◌, ◌≤◌, length};
 ghost use Rattle.chacha20_block.specs.ChaCha20.{rotl, quarter_round, quarter_round_at, column_round, diagonal_round, rounds, started, words, added, serialized, block_of, block_for};
 ghost use Rattle.lists.specs.Buffer.{pasted};
 
 // Four words of the state.
-#[derive(Drop)]
+#[derive(Clone, Copy)]
 pub struct Quarter {
     pub a: u32,
     pub b: u32,

@@ -1,18 +1,17 @@
 -- Numbers read from digits, and the loop that reads them.
-use Prim.Native.Nat.{ℕ, suc, ◌+◌, ◌-◌, ◌*◌, ◌≤◌, ◌<◌, min}
+use Prim.Native.Nat.{ℕ, ◌+◌, ◌-◌, ◌*◌, ◌≤◌, ◌<◌, min}
 use mathlib.Core.Bool.{Bool, true, false, cond, ◌&&◌}
 use mathlib.Core.List.{List, [], ◌∷◌}
 use mathlib.Core.Path.{◌≡◌, refl, ap, sym, ◌∙◌}
 use native.Mathlib.Numerals.{add-one}
 use native.Mathlib.Omega.{arith}
 use borrow.Author.Tests.{lt-ltb, le-ltb, le-leb, lt-leb}
-use lib.Dec.{leb, ltb}
+use lib.Dec.{ltb}
 use lib.ListN.{length, drop, get_or, drop_of_length-le}
 use lib.Seq.{drop-cons}
 use Rattle.format.specs.Digits.{value_behind, value_of}
 use Rattle.command.specs.Typed.{is_digit, all_digits, number_of}
 use Rattle.command.specs.declared.Number.TheVariants.{Is, Not}
-use Rattle.command.specs.declared.Number.{Number}
 
 -- `007` is 7, `99999` is 65,536, and `5x` is no number
 pub number_007 : number_of (48 ∷ 48 ∷ 55 ∷ []) ≡ Is 7

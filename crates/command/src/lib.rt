@@ -1,4 +1,6 @@
 // What a user types, as bytes: a name padded, a path with the name of a temporary file, an account's number read.
+#![tactic(auto)]
+
 ghost use Rattle.std.specs.Prelude.{◌≡◌, min, length};
 ghost use Rattle.buffers.specs.Handed.{handed, handed_into};
 ghost use Rattle.command.specs.Typed.{padded_name, temporary_name, number_of};
@@ -6,7 +8,7 @@ ghost use Rattle.command.specs.Typed.{padded_name, temporary_name, number_of};
 use buffers::Written;
 
 // A number that was typed, or something else.
-#[derive(Drop)]
+#[derive(Clone, Copy)]
 pub enum Number {
     Is(u32),
     Not,
@@ -21,7 +23,7 @@ pub fn pad_name(typed: &[u8], name: &mut [u8]) -> Written
         return buffers::hand_out(typed, name);
     }
     let mut padded = *b"        ";
-    bytes::copy(typed, &mut padded);
+    padded[..typed.len()].copy_from_slice(typed);
     buffers::hand_out(&padded, name)
 }
 

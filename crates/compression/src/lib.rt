@@ -1,11 +1,12 @@
 // The compression function of SHA-256 (FIPS 180-4, section 6.2.2): a hash value of eight words and a block of 64 bytes
 // to the next hash value.
+#![tactic(auto)]
 
 ghost use Rattle.std.specs.Prelude.{◌≡◌, ◌+◌, ◌<◌, ◌++◌, length, take, drop};
 ghost use Rattle.compression.specs.Compression.{word, words, extended, start, temporary1, temporary2, round_of, rounds, added, compressed};
 
 // The working variables (section 6.2.2).
-#[derive(Drop)]
+#[derive(Clone, Copy)]
 pub struct Working {
     pub a: u32,
     pub b: u32,

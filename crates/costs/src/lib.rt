@@ -1,4 +1,6 @@
 // What one account more costs at each label, from the labels' accounts and their order.
+#![tactic(auto)]
+
 ghost use Rattle.std.specs.Prelude.{true, ◌≡◌, ◌≤◌, ◌<◌};
 ghost use Rattle.order.specs.Table.{entry_at};
 ghost use Rattle.trees.specs.Growth.{plan_total, cost, ceiling, Grows};
@@ -9,7 +11,7 @@ ghost use Rattle.costs.specs.Asks.{AllGrow, AllSame, HoldsOneMore};
 use growth_answers::Growth;
 
 // What one account more at a label adds to the plan's total, and the ceiling of that; zeros for a label without room for it.
-#[derive(Drop)]
+#[derive(Clone, Copy)]
 struct Figures {
     cost: u8,
     ceiling: u8,

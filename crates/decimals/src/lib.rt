@@ -1,4 +1,6 @@
 // Numbers in decimal, lines of a word and a number, and the line of a refusal.
+#![tactic(auto)]
+
 ghost use Rattle.std.specs.Prelude.{◌≡◌, ◌+◌, ◌≤◌, ◌<◌, ◌++◌, length};
 ghost use Rattle.buffers.specs.Handed.{handed, handed_into};
 ghost use Rattle.buffers.specs.Put.{Put};

@@ -1,4 +1,6 @@
 // The key of a record's label in an envelope: its secret, walked down from a held one, and the key made of it.
+#![tactic(auto)]
+
 ghost use Rattle.std.specs.Prelude.{◌≡◌, ◌+◌, ◌≤◌};
 ghost use Rattle.envelope_file.specs.Derive.{walk_to, derived_at};
 ghost use Rattle.envelope_file.specs.Reads.{Located, Placed, Falling};

@@ -1,4 +1,6 @@
 // The key of a label, derived from a key envelope alone.
+#![tactic(auto)]
+
 ghost use Rattle.std.specs.Prelude.{◌≡◌};
 ghost use Rattle.envelope_file.specs.Derive.{refused_derived, record_asked, derived_of};
 ghost use Rattle.envelope_file.specs.Reads.{Located};

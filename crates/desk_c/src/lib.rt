@@ -1,4 +1,6 @@
 // The desk's operations for C callers, each by the equation of the operation itself. A slice is passed as a pointer and a length.
+#![tactic(auto)]
+
 ghost use Rattle.std.specs.Prelude.{◌≡◌};
 ghost use Rattle.envelope_file.specs.Derive.{derived_of};
 ghost use Rattle.envelope_file.specs.Labels.{envelope_labels};

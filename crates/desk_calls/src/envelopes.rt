@@ -5,47 +5,47 @@ ghost use Rattle.desk_calls.specs.Ran.{DeriveEnds, LabelsEnds};
 use outcomes::Ended;
 
 // Tells why the envelope, or NAME (20), is refused.
-fn tell_refused(program: &[u8], envelope: &[u8], number: u8) {
+fn tell_refused(rt: HostRuntime, program: &[u8], envelope: &[u8], number: u8) {
     if number == 20 {
-        arguments::tell_argument(program, 3, number);
+        arguments::tell_argument(rt, program, 3, number);
     } else {
-        arguments::open_about(program, 2);
-        reasons::tell_envelope(number, envelope::records_read(envelope));
+        arguments::open_about(rt, program, 2);
+        reasons::tell_envelope(rt, number, envelope::records_read(envelope));
     }
 }
 
 // Prints how a call over an envelope ended, and tells why it is refused.
-fn report(program: &[u8], envelope: &[u8], ended: Ended) -> Ended
+fn report(rt: HostRuntime, program: &[u8], envelope: &[u8], ended: Ended) -> Ended
     ensures { Printed ended result }
 {
-    let printed = answers::print(program, ended);
+    let printed = answers::print(rt, program, ended);
     if printed.ok && printed.refusal != 0 {
-        tell_refused(program, envelope, printed.refusal);
+        tell_refused(rt, program, envelope, printed.refusal);
     }
     printed
 }
 
 // `derive ENVELOPE NAME`
-pub(crate) fn derive(program: &[u8]) -> Ended
+pub(crate) fn derive(rt: HostRuntime, program: &[u8]) -> Ended
     ensures { DeriveEnds result }
 {
     // A longer file has the answer of its first 4,096 bytes (`derived_front`, `labels_front`, crate envelope_file).
     let mut envelope = io::buffer();
-    let read = files::read_argument(program, 2, &mut envelope);
+    let read = files::read_argument(rt, program, 2, &mut envelope);
     let mut name = io::buffer();
-    let name_length = arguments::name_argument(3, &mut name);
+    let name_length = arguments::name_argument(rt, 3, &mut name);
     let length = read.length;
     let ended = desk_verbs::derive(read.ok, &envelope[..length], &name[..name_length]);
-    report(program, &envelope[..length], ended)
+    report(rt, program, &envelope[..length], ended)
 }
 
 // `labels ENVELOPE`
-pub(crate) fn labels(program: &[u8]) -> Ended
+pub(crate) fn labels(rt: HostRuntime, program: &[u8]) -> Ended
     ensures { LabelsEnds result }
 {
     let mut envelope = io::buffer();
-    let read = files::read_argument(program, 2, &mut envelope);
+    let read = files::read_argument(rt, program, 2, &mut envelope);
     let length = read.length;
     let ended = desk_verbs::labels(read.ok, &envelope[..length]);
-    report(program, &envelope[..length], ended)
+    report(rt, program, &envelope[..length], ended)
 }

@@ -1,4 +1,6 @@
 // The verbs of `yendlowa-desk` as tables, in the order of `verbs` in specs/Calls.antt: a row for each, and empty rows after them.
+#![tactic(auto)]
+
 ghost use Rattle.std.specs.Prelude.{map, ◌≡◌};
 ghost use Rattle.format.specs.Names.{unpadded};
 ghost use Rattle.verbs.specs.Tables.{words_of, least_of, most_of};

@@ -1,4 +1,6 @@
 // The desk's verbs, over the bytes of an envelope: how a call ends and what it says. Nothing here prints. `read`: whether the envelope could be read.
+#![tactic(auto)]
+
 ghost use Rattle.std.specs.Prelude.{◌≡◌};
 ghost use Rattle.envelope_file.specs.Derive.{derived_of};
 ghost use Rattle.envelope_file.specs.Labels.{envelope_labels};

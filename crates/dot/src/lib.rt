@@ -1,4 +1,6 @@
 // The plan as a drawing in Graphviz's language.
+#![tactic(auto)]
+
 ghost use Rattle.std.specs.Prelude.{◌≡◌, ◌+◌, ◌≤◌, ◌<◌, length};
 ghost use Rattle.buffers.specs.Put.{Put};
 ghost use Rattle.lists.specs.Tables.{concat_below};

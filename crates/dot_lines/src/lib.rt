@@ -1,4 +1,6 @@
 // The lines of the drawing: a box for each label, and the arrow from its parent.
+#![tactic(auto)]
+
 ghost use Rattle.std.specs.Prelude.{◌+◌, ◌≤◌, ◌<◌, length};
 ghost use Rattle.buffers.specs.Put.{Put};
 ghost use Rattle.plan_texts.specs.Printable.{Printable};

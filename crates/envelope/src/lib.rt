@@ -1,4 +1,6 @@
 // The whole key envelope: its header and its records.
+#![tactic(auto)]
+
 ghost use Rattle.std.specs.Prelude.{◌≡◌, ◌≤◌, length};
 ghost use Rattle.envelope_file.specs.Whole.{head_refusal, refused, nothing_read, settled, scan_from, contents_of, count_from, envelope_records_read};
 

@@ -1,7 +1,8 @@
 // The form of a key envelope: what its records and its operations answer. Definitions stand in specs/, theorems in proofs/; there is no code here.
+#![tactic(auto)]
 
 // What one record is: one that holds a secret, one under the record at a place, the end of the file, or a refusal with its number.
-#[derive(Drop)]
+#[derive(Clone, Copy)]
 pub enum Kind {
     Held,
     Under(u8),
@@ -10,7 +11,7 @@ pub enum Kind {
 }
 
 // The verdict on an envelope, the number of its records, where each starts and the place that each gives: its own if it holds its secret.
-#[derive(Drop)]
+#[derive(Clone, Copy)]
 pub struct Contents {
     pub refusal: u8,
     pub records: usize,
@@ -19,7 +20,7 @@ pub struct Contents {
 }
 
 // The secret of a record, and the tree steps that lead to it from a held one.
-#[derive(Drop)]
+#[derive(Clone, Copy)]
 pub struct Walk {
     pub secret: [u8; 32],
     pub steps: u8,
@@ -27,7 +28,7 @@ pub struct Walk {
 
 // A label's key and the number of applications of F made for it; zeros with a refusal.
 #[repr(C)]
-#[derive(Drop)]
+#[derive(Clone, Copy)]
 pub struct Derived {
     pub refusal: u8,
     pub key: [u8; 32],
@@ -36,7 +37,7 @@ pub struct Derived {
 
 // The account and the labels of an envelope: 8 bytes of name for each record, in the envelope's order, and zeros after them; zeros with a refusal.
 #[repr(C)]
-#[derive(Drop)]
+#[derive(Clone, Copy)]
 pub struct Labels {
     pub refusal: u8,
     pub zeros: [u8; 5],

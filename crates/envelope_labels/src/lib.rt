@@ -1,4 +1,6 @@
 // The account of a key envelope, and the labels that it opens.
+#![tactic(auto)]
+
 ghost use Rattle.std.specs.Prelude.{◌≡◌};
 ghost use Rattle.envelope_file.specs.Labels.{names_in, refused_labels, envelope_labels};
 ghost use Rattle.envelope_file.specs.Reads.{Located};

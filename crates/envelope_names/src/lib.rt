@@ -1,4 +1,6 @@
 // The names of an envelope's records: the search for one, and what the next one is refused under.
+#![tactic(auto)]
+
 ghost use Rattle.std.specs.Prelude.{◌≡◌, ◌+◌, ◌≤◌, length};
 ghost use Rattle.envelope_file.specs.File.{start_of, record_named};
 ghost use Rattle.envelope_file.specs.Record.{name_refusal};

@@ -1,4 +1,6 @@
 // One record of a key envelope, read after the records before it.
+#![tactic(auto)]
+
 ghost use Rattle.std.specs.Prelude.{◌≡◌, ◌+◌, ◌≤◌, length};
 ghost use Rattle.envelope_file.specs.File.{start_of};
 ghost use Rattle.envelope_file.specs.Record.{held_kind, under_kind, envelope_kind};

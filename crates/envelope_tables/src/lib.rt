@@ -1,4 +1,6 @@
 // What the envelope of a label says of each label, as tables: the place of its record, and whether its secret is held.
+#![tactic(auto)]
+
 ghost use Rattle.std.specs.Prelude.{false, ◌≡◌, ◌≤◌, ◌<◌};
 ghost use Rattle.lists.specs.Tables.{filled};
 ghost use Rattle.order.specs.Table.{entry_at};

@@ -1,4 +1,6 @@
 // Which label refusals 10 and 12 mean, by its name: eight spaces when the refusal is another one, or none.
+#![tactic(auto)]
+
 ghost use Rattle.std.specs.Prelude.{◌≡◌, ◌+◌, ◌-◌, ◌≤◌, length};
 ghost use Rattle.format.specs.Search.{first_from};
 ghost use Rattle.order.specs.Table.{entry_at};

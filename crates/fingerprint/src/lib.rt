@@ -1,10 +1,12 @@
 // The fingerprint of a root secret: eight bytes by which a wrong root file is noticed.
+#![tactic(auto)]
+
 ghost use Rattle.std.specs.Prelude.{◌≡◌};
 ghost use Rattle.fingerprint.specs.Fingerprint.{fingerprint_of};
 
 // The fingerprint, or the refusal with zeros. There is no padding.
 #[repr(C)]
-#[derive(Drop)]
+#[derive(Clone, Copy)]
 pub struct RootFingerprint {
     pub refusal: u8,
     pub bytes: [u8; 8],

@@ -8,10 +8,9 @@ use native.Mathlib.Nat.{add_assoc}
 use native.Mathlib.Numerals.{add-one}
 use native.Mathlib.Omega.{arith}
 use lib.Dec.{eqb}
-use lib.ListN.{length, get_or, take, drop, replicate, drop_of_length-le, length-drop, take-append-drop}
+use lib.ListN.{length, get_or, take, drop, drop_of_length-le, length-drop, take-append-drop}
 use lib.Seq.{drop-cons, length-take-le, take_all, take-append-le, drop-append-le}
 use borrow.Author.Tests.{eq-eqb, eqb-true}
-use Rattle.lists.proofs.Pasted.{copied, zero_filled_all}
 use Rattle.format.specs.Bytes.{bytes_at, same_bytes, number_at, number_bytes}
 
 -- a number below 65,536 is read back from its two bytes
@@ -117,13 +116,11 @@ module _ (s : List ℕ) (at : ℕ) where
 
   -- a copy of n of them fills n places
   pub part_fills : (n : ℕ) → at + n ≤ length s → {out : List ℕ}
-      → out ≡ take (length (take (at + n - at) (drop at s))) (take (at + n - at) (drop at s)) ++ drop (length (take (at + n - at) (drop at s))) (replicate n 0)
+      → out ≡ take (at + n - at) (drop at s)
       → out ≡ bytes_at s at n
   part_fills n h e =
-      let p : List ℕ = take (at + n - at) (drop at s) in
       let width : at + n - at ≡ n = omega arith in
-      let size : length p ≡ n = rw width (length-take-le n (drop at s) (omega (arith, length-drop at s))) in
-      e ∙ copied n p (omega arith) ∙ zero_filled_all n p size ∙ ap (λ (k : ℕ). take k (drop at s)) width
+      e ∙ ap (λ (k : ℕ). take k (drop at s)) width
 
 -- the bytes of a front part
 pub front_bytes : (front back : List ℕ) (at n : ℕ) → at + n ≤ length front → bytes_at (front ++ back) at n ≡ bytes_at front at n

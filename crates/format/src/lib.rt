@@ -1,5 +1,7 @@
 // What issuer and desk share of the file forms: the definitions of marks, names, secrets and two-byte numbers, and the
 // functions that read marks, secrets and numbers.
+#![tactic(auto)]
+
 ghost use Rattle.std.specs.Prelude.{◌≡◌, ◌+◌, ◌≤◌, length};
 ghost use Rattle.format.specs.Bytes.{bytes_at, same_bytes, number_at};
 
@@ -29,7 +31,7 @@ pub const RL: [u8; 2] = *b"RL";
 pub const WD: [u8; 2] = *b"WD";
 
 // What a byte of a name can be.
-#[derive(Drop)]
+#[derive(Clone, Copy)]
 pub enum Class {
     Letter,
     Digit,
@@ -38,7 +40,7 @@ pub enum Class {
 }
 
 // What a search gives: the first place that has what is looked for, or none.
-#[derive(Drop)]
+#[derive(Clone, Copy)]
 pub enum Found {
     At(usize),
     Nothing,
@@ -58,7 +60,7 @@ pub fn read_secret(s: &[u8], at: usize) -> [u8; 32]
     ensures { result ≡ bytes_at s.now at 32 }
 {
     let mut secret = [0u8; 32];
-    bytes::copy(&s[at..at + 32], &mut secret);
+    secret.copy_from_slice(&s[at..at + 32]);
     secret
 }
 

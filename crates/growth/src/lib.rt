@@ -1,4 +1,6 @@
 // What one more account costs at each label of a policy file.
+#![tactic(auto)]
+
 ghost use Rattle.std.specs.Prelude.{◌≡◌};
 ghost use Rattle.growth_answers.specs.Growing.{growth_of};
 

@@ -1,4 +1,6 @@
 // What one more account costs, for C callers, each function by the equation of the operation itself. A slice is passed as a pointer and a length.
+#![tactic(auto)]
+
 ghost use Rattle.std.specs.Prelude.{◌≡◌, length};
 ghost use Rattle.growth_answers.specs.Growing.{growth_of};
 ghost use Rattle.growth_answers.specs.GrowthTextAnswer.{growth_written, growth_after};

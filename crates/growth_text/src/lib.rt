@@ -1,4 +1,6 @@
 // What one more account costs, as text: a line for each label.
+#![tactic(auto)]
+
 ghost use Rattle.std.specs.Prelude.{◌≡◌, ◌+◌, ◌*◌, ◌≤◌, ◌<◌, length};
 ghost use Rattle.buffers.specs.Put.{Put};
 ghost use Rattle.growth_answers.specs.GrowthListing.{figures, growth_line, growth_lines};

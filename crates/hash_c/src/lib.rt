@@ -1,4 +1,6 @@
 // The hash for C callers, each function by the equation of the operation itself. A slice is passed as a pointer and a length.
+#![tactic(auto)]
+
 ghost use Rattle.std.specs.Prelude.{◌≡◌};
 ghost use Rattle.sha256.specs.Digest.{sha256_of};
 ghost use Rattle.hmac.specs.HmacAnswer.{hmac_of};

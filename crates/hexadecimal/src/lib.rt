@@ -1,4 +1,6 @@
 // Bytes in hexadecimal.
+#![tactic(auto)]
+
 ghost use Rattle.std.specs.Prelude.{◌≡◌, ◌<◌, length};
 ghost use Rattle.buffers.specs.Handed.{handed, handed_into};
 ghost use Rattle.hexadecimal.specs.Hex.{hex_digit, hex_byte, hex_of};

@@ -1,4 +1,6 @@
 // HMAC (FIPS 198-1) with SHA-256.
+#![tactic(auto)]
+
 ghost use Rattle.std.specs.Prelude.{◌≡◌, ◌≤◌, length};
 ghost use Rattle.lists.specs.Buffer.{zero_filled};
 ghost use Rattle.hmac.specs.Hmac.{key_block, masked, hmac};
@@ -13,7 +15,7 @@ fn zero_filled(bytes: &[u8]) -> [u8; 64]
     ensures { result ≡ zero_filled 64 bytes.now }
 {
     let mut block = [0u8; 64];
-    bytes::copy(bytes, &mut block);
+    block[..bytes.len()].copy_from_slice(bytes);
     block
 }
 

@@ -1,4 +1,6 @@
 // The issuer's verb `issue`, over the bytes of the files that it reads.
+#![tactic(auto)]
+
 ghost use Rattle.std.specs.Prelude.{false, ◌≡◌, length};
 ghost use Rattle.fingerprint.specs.Fingerprint.{fingerprint_of};
 ghost use Rattle.issuer_answers.specs.Issue.{issued_of};
@@ -20,20 +22,28 @@ fn tell_saved(saved: Saved, root: &[u8], option: bool) -> Ended
 }
 
 // Saves an envelope and prints the length of what was saved. One that cannot be told of is removed again.
-fn keep_envelope(program: &[u8], out: &[u8], envelope: &[u8], root: &[u8], option: bool) -> Ended
+fn keep_envelope(
+    rt: HostRuntime,
+    program: &[u8],
+    out: &[u8],
+    envelope: &[u8],
+    root: &[u8],
+    option: bool,
+) -> Ended
     ensures { Said 0 (issued_text (length envelope.now) (fingerprint_of root.now).bytes option) result }
 {
-    let saved = new_file::save(program, out, envelope);
+    let saved = new_file::save(rt, program, out, envelope);
     let made = saved.ok;
-    let told = answers::print(program, tell_saved(saved, root, option));
+    let told = answers::print(rt, program, tell_saved(saved, root, option));
     if made && !told.ok {
-        new_file::remove(program, out);
+        new_file::remove(rt, program, out);
     }
     told
 }
 
 // Writes the envelope of an account to a new file. `read`: whether the files could be read.
 pub fn issue(
+    rt: HostRuntime,
     program: &[u8],
     read: bool,
     policy: &[u8],
@@ -53,8 +63,8 @@ pub fn issue(
     let mut envelope = [0u8; 4096];
     let issued = issuer::issue(policy, name, account, root, &mut envelope);
     if issued.refusal != 0 {
-        return answers::print(program, outcomes::ended_with(true, issued.refusal, b""));
+        return answers::print(rt, program, outcomes::ended_with(true, issued.refusal, b""));
     }
     let length = issued.length;
-    keep_envelope(program, out, &envelope[..length], root, option)
+    keep_envelope(rt, program, out, &envelope[..length], root, option)
 }

@@ -1,4 +1,6 @@
 // Key envelopes written for accounts of a policy.
+#![tactic(auto)]
+
 ghost use Rattle.std.specs.Prelude.{◌≡◌, length};
 ghost use Rattle.issuer_answers.specs.Issue.{issued_of, envelope_after};
 

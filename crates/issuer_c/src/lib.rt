@@ -1,4 +1,6 @@
 // The issuer's keys, envelopes and root fingerprints for C callers, each function by the equation of the operation itself. A slice is passed as a pointer and a length.
+#![tactic(auto)]
+
 ghost use Rattle.std.specs.Prelude.{◌≡◌, length};
 ghost use Rattle.fingerprint.specs.Fingerprint.{fingerprint_of};
 ghost use Rattle.issuer_answers.specs.Keys.{issuer_key_of};

@@ -7,16 +7,16 @@ use command::Number;
 use outcomes::Ended;
 
 // `key [--fingerprint] POLICY NAME ROOT`
-pub(crate) fn key(program: &[u8], option: bool) -> Ended
+pub(crate) fn key(rt: HostRuntime, program: &[u8], option: bool) -> Ended
     ensures { KeyEnds option result }
 {
     let at = reports::first_argument(option);
     // Longer files have the answer of their first 4,096 bytes (`key_front`, `key_root_front`, crate issuer_answers).
     let mut policy = io::buffer();
     let mut root = io::buffer();
-    let read = files::read_both(program, at, at + 2, &mut policy, &mut root);
+    let read = files::read_both(rt, program, at, at + 2, &mut policy, &mut root);
     let mut name = io::buffer();
-    let name_length = arguments::name_argument(at + 1, &mut name);
+    let name_length = arguments::name_argument(rt, at + 1, &mut name);
     let policy_length = read.first;
     let root_length = read.second;
     let ended = key_verb::key(
@@ -26,28 +26,29 @@ pub(crate) fn key(program: &[u8], option: bool) -> Ended
         &root[..root_length],
         option,
     );
-    reports::of_key(program, &policy[..policy_length], option, ended)
+    reports::of_key(rt, program, &policy[..policy_length], option, ended)
 }
 
 // `issue`, for the account number that was read
-fn issue_to(program: &[u8], option: bool, account: u32) -> Ended
+fn issue_to(rt: HostRuntime, program: &[u8], option: bool, account: u32) -> Ended
     ensures { IssueEnds option account result }
 {
     let at = reports::first_argument(option);
-    if new_file::is_no_file(program, at + 4) {
+    if new_file::is_no_file(rt, program, at + 4) {
         return outcomes::failed();
     }
     // As for `key` (`buffer_front`, `buffer_root_front`, crate issuer_answers).
     let mut policy = io::buffer();
     let mut root = io::buffer();
-    let read = files::read_both(program, at, at + 3, &mut policy, &mut root);
+    let read = files::read_both(rt, program, at, at + 3, &mut policy, &mut root);
     let mut name = io::buffer();
-    let name_length = arguments::name_argument(at + 1, &mut name);
+    let name_length = arguments::name_argument(rt, at + 1, &mut name);
     let mut out = io::buffer();
-    let out_length = arguments::argument(at + 4, &mut out);
+    let out_length = arguments::argument(rt, at + 4, &mut out);
     let policy_length = read.first;
     let root_length = read.second;
     let printed = issue_verb::issue(
+        rt,
         program,
         read.ok,
         &policy[..policy_length],
@@ -57,42 +58,42 @@ fn issue_to(program: &[u8], option: bool, account: u32) -> Ended
         option,
         &out[..out_length],
     );
-    reports::of_issue(program, &policy[..policy_length], option, printed)
+    reports::of_issue(rt, program, &policy[..policy_length], option, printed)
 }
 
 // Tells an ACCOUNT that is not a number.
-fn no_number(program: &[u8], typed: &[u8]) -> Ended
+fn no_number(rt: HostRuntime, program: &[u8], typed: &[u8]) -> Ended
     ensures { result.ok ≡ false }
 {
-    messages::tell_value(program, b"ACCOUNT ", typed, b" is not a number");
+    messages::tell_value(rt, program, b"ACCOUNT ", typed, b" is not a number");
     outcomes::failed()
 }
 
 // `issue [--fingerprint] POLICY NAME ACCOUNT ROOT OUT`
-pub(crate) fn issue(program: &[u8], option: bool) -> Ended
+pub(crate) fn issue(rt: HostRuntime, program: &[u8], option: bool) -> Ended
     ensures { (account : ℕ) × IssueEnds option account result }
 {
     let at = reports::first_argument(option) + 2;
     let mut typed = io::buffer();
-    let length = arguments::argument(at, &mut typed);
+    let length = arguments::argument(rt, at, &mut typed);
     // A longer one is cut here, and what was cut off may be something else than digits.
     if length == 4096 {
-        return no_number(program, &typed[..length]);
+        return no_number(rt, program, &typed[..length]);
     }
     match command::read_account(&typed[..length]) {
-        Number::Is(account) => issue_to(program, option, account),
-        Number::Not => no_number(program, &typed[..length]),
+        Number::Is(account) => issue_to(rt, program, option, account),
+        Number::Not => no_number(rt, program, &typed[..length]),
     }
 }
 
 // `root OUT`
-pub(crate) fn root(program: &[u8]) -> Ended
+pub(crate) fn root(rt: HostRuntime, program: &[u8]) -> Ended
     ensures { RootEnds result }
 {
-    if new_file::is_no_file(program, 2) {
+    if new_file::is_no_file(rt, program, 2) {
         return outcomes::failed();
     }
     let mut out = io::buffer();
-    let length = arguments::argument(2, &mut out);
-    root_verb::make_root(program, &out[..length])
+    let length = arguments::argument(rt, 2, &mut out);
+    root_verb::make_root(rt, program, &out[..length])
 }

@@ -5,23 +5,29 @@ ghost use Rattle.outcomes.specs.Status.{Printed};
 use outcomes::Ended;
 
 // Reports a call over a policy; the argument after the verb names it, if there is one.
-pub(crate) fn of_policy(program: &[u8], policy: &[u8], ended: Ended) -> Ended
+pub(crate) fn of_policy(rt: HostRuntime, program: &[u8], policy: &[u8], ended: Ended) -> Ended
     ensures { Printed ended result }
 {
-    let printed = answers::print(program, ended);
+    let printed = answers::print(rt, program, ended);
     if printed.ok && printed.refusal != 0 {
-        policy_messages::tell_policy(program, 2, policy, printed.refusal);
+        policy_messages::tell_policy(rt, program, 2, policy, printed.refusal);
     }
     printed
 }
 
 // Reports a call over a policy and a tree file.
-pub(crate) fn of_tree(program: &[u8], policy: &[u8], tree: &[u8], ended: Ended) -> Ended
+pub(crate) fn of_tree(
+    rt: HostRuntime,
+    program: &[u8],
+    policy: &[u8],
+    tree: &[u8],
+    ended: Ended,
+) -> Ended
     ensures { Printed ended result }
 {
-    let printed = answers::print(program, ended);
+    let printed = answers::print(rt, program, ended);
     if printed.ok && printed.refusal != 0 {
-        policy_messages::tell_tree(program, 2, 3, policy, tree, printed.refusal);
+        policy_messages::tell_tree(rt, program, 2, 3, policy, tree, printed.refusal);
     }
     printed
 }
@@ -44,14 +50,20 @@ fn key_argument(number: u8, at: usize) -> usize
 }
 
 // Reports a call of `key`.
-pub(crate) fn of_key(program: &[u8], policy: &[u8], option: bool, ended: Ended) -> Ended
+pub(crate) fn of_key(
+    rt: HostRuntime,
+    program: &[u8],
+    policy: &[u8],
+    option: bool,
+    ended: Ended,
+) -> Ended
     ensures { Printed ended result }
 {
-    let printed = answers::print(program, ended);
+    let printed = answers::print(rt, program, ended);
     if printed.ok && printed.refusal != 0 {
         let at = first_argument(option);
         let argument = key_argument(printed.refusal, at);
-        policy_messages::tell_asked(program, at, argument, policy, printed.refusal);
+        policy_messages::tell_asked(rt, program, at, argument, policy, printed.refusal);
     }
     printed
 }
@@ -68,13 +80,19 @@ fn issue_argument(number: u8, at: usize) -> usize
 }
 
 // Reports a call of `issue`, which was printed when the envelope was saved.
-pub(crate) fn of_issue(program: &[u8], policy: &[u8], option: bool, printed: Ended) -> Ended
+pub(crate) fn of_issue(
+    rt: HostRuntime,
+    program: &[u8],
+    policy: &[u8],
+    option: bool,
+    printed: Ended,
+) -> Ended
     ensures { result ≡ printed }
 {
     if printed.ok && printed.refusal != 0 {
         let at = first_argument(option);
         let argument = issue_argument(printed.refusal, at);
-        policy_messages::tell_asked(program, at, argument, policy, printed.refusal);
+        policy_messages::tell_asked(rt, program, at, argument, policy, printed.refusal);
     }
     printed
 }

@@ -1,4 +1,6 @@
 // The issuer's keys, and the label that a name asks for.
+#![tactic(auto)]
+
 ghost use Rattle.std.specs.Prelude.{◌≡◌, ◌*◌, ◌≤◌, length};
 ghost use Rattle.issuer_answers.specs.Keys.{label_asked, refused_key, issuer_key_of};
 

@@ -1,4 +1,6 @@
 // The issuer's verb `key`, over the bytes of its files: how a call ends and what it says. Nothing here prints.
+#![tactic(auto)]
+
 ghost use Rattle.std.specs.Prelude.{◌≡◌};
 ghost use Rattle.fingerprint.specs.Fingerprint.{fingerprint_of};
 ghost use Rattle.issuer_answers.specs.Keys.{issuer_key_of};

@@ -1,4 +1,6 @@
 // The envelope of an account at a label that is found: what it is refused under, and the envelope handed out.
+#![tactic(auto)]
+
 ghost use Rattle.std.specs.Prelude.{◌≡◌, ◌+◌, ◌*◌, ◌≤◌, ◌<◌, length};
 ghost use Rattle.buffers.specs.Handed.{handed, handed_into};
 ghost use Rattle.secrets.specs.Asks.{Hung};

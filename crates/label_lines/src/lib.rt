@@ -1,4 +1,6 @@
 // What `labels` prints, as bytes in a buffer.
+#![tactic(auto)]
+
 ghost use Rattle.std.specs.Prelude.{◌+◌, ◌*◌, ◌≤◌, ◌<◌, length};
 ghost use Rattle.buffers.specs.Put.{Put};
 ghost use Rattle.label_lines.specs.Labels.{name_line, name_lines, labels_text};

@@ -1,4 +1,6 @@
 // The `LB` record of a policy file, and the search for a label's name.
+#![tactic(auto)]
+
 ghost use Rattle.std.specs.Prelude.{◌≡◌, ◌+◌, ◌*◌, ◌≤◌, length};
 ghost use Rattle.policy_file.specs.File.{label_named};
 ghost use Rattle.policy_file.specs.Record.{unnamed_of, with_name, label_kind};

@@ -1,4 +1,6 @@
 // The parts of lines that the plan's text, its drawing and the text of growth are made of: names of labels, and numbers.
+#![tactic(auto)]
+
 ghost use Rattle.std.specs.Prelude.{◌+◌, ◌*◌, ◌≤◌, length};
 ghost use Rattle.buffers.specs.Put.{Put};
 ghost use Rattle.format.specs.Names.{unpadded};

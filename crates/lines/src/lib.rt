@@ -1,4 +1,6 @@
 // Keys, fingerprints and the lengths of new files as the verbs print them, as bytes in a buffer.
+#![tactic(auto)]
+
 ghost use Rattle.std.specs.Prelude.{◌+◌, ◌*◌, ◌≤◌, ◌<◌, length};
 ghost use Rattle.buffers.specs.Put.{Put};
 ghost use Rattle.lines.specs.Lines.{hex_line, fingerprint_line, option_line, key_text, issued_text, sealed_text, opened_text};

@@ -5,8 +5,8 @@ use Prim.Native.Nat.{ℕ, suc, ◌+◌, ◌-◌, ◌≤◌, ◌<◌}
 use native.Mathlib.Nat.{sub-zero}
 use native.Mathlib.Numerals.{add-one}
 use native.Mathlib.Omega.{arith}
-use lib.ListN.{length, set, take, drop, replicate, length-append, length-take, length-replicate, drop_of_length-le, replicate-append-replicate}
-use lib.Seq.{sets-eq, take_at, drop_at, take-length, length-take-le, drop-append-add, drop-drop}
+use lib.ListN.{length, set, take, drop, replicate, length-append, length-replicate, replicate-append-replicate}
+use lib.Seq.{sets-eq, take_at, drop_at, length-take-le, drop-append-add, drop-drop}
 use Rattle.lists.specs.Buffer.{pasted, zero_filled}
 
 -- stores one after the other are a paste
@@ -46,14 +46,12 @@ pasted_adjacent d at s t h =
 
 -- a copy into the part of a buffer from at on is a write
 pub part_copied : (d : List ℕ) (at : ℕ) (s copied : List ℕ) → at + length s ≤ length d
-    → copied ≡ take (length s) s ++ drop (length s) (take (at + length s - at) (drop at d))
+    → copied ≡ s
     → take at d ++ (copied ++ drop (at + length s - at) (drop at d)) ≡ pasted d at s
 unfolding pasted
 part_copied d at s copied h e =
     let k : at + length s - at ≡ length s = omega arith in
-    let none : drop (length s) (take (length s) (drop at d)) ≡ [] =
-    drop_of_length-le (take (length s) (drop at d)) {i = length s} (omega (arith, length-take (length s) (drop at d))) in
-    rw (e, k, none, take-length s, append-nil s, drop-drop (length s) at d, append_assoc (take at d) s (drop (at + length s) d))
+    rw (e, k, drop-drop (length s) at d, append_assoc (take at d) s (drop (at + length s) d))
 
 -- k zeros
 abbrev zeros : ℕ → List ℕ
@@ -117,7 +115,7 @@ module _ (n : ℕ) where
       ∙ pasted_next p (x ∷ []) (length p) refl (omega arith)
 
   -- a copy to the front
-  pub copied : (s : List ℕ) → length s ≤ n → take (length s) s ++ drop (length s) (replicate n 0) ≡ zero_filled n s
+  pub copied : (s : List ℕ) → length s ≤ n → s ++ drop (length s) (replicate n 0) ≡ zero_filled n s
   unfolding zero_filled
   copied s h =
       let split : n ≡ length s + (n - length s) = omega arith in
@@ -126,4 +124,4 @@ module _ (n : ℕ) where
       ∙ ap (λ (r : List ℕ). drop (length s) r) (zeros_add (length s) (n - length s))
       ∙ drop_at (zeros (length s)) (zeros (n - length s)) (length s) (length_zeros (length s))
       in
-      ap (λ (r : List ℕ). r ++ drop (length s) (zeros n)) (take-length s) ∙ ap (λ (r : List ℕ). s ++ r) rest
+      ap (λ (r : List ℕ). s ++ r) rest

@@ -1,4 +1,6 @@
 // Words of 32 bits read from bytes and written as bytes, the least significant byte first.
+#![tactic(auto)]
+
 ghost use Rattle.std.specs.Prelude.{◌≡◌, ◌+◌, ◌≤◌, ◌<◌, length, take, drop};
 ghost use Rattle.lists.specs.Buffer.{pasted};
 ghost use Rattle.little_endian.specs.LittleEndian.{little_endian, little_bytes};

@@ -1,9 +1,12 @@
 // The form of a name: letters and digits, at least one, then spaces to the end.
+#![tactic(auto)]
+
 ghost use Rattle.std.specs.Prelude.{◌≡◌};
 ghost use Rattle.format.specs.Names.{class_of, well_formed};
 
 use format::Class;
 
+#[tactic(auto, unfolding(format::specs::Names::class_of))]
 pub fn class_of(byte: u8) -> Class
     ensures { result ≡ class_of byte }
 {

@@ -1,4 +1,6 @@
 // Names in files: read, compared, and their length without padding.
+#![tactic(auto)]
+
 ghost use Rattle.std.specs.Prelude.{◌≡◌, ◌+◌, ◌≤◌, length};
 ghost use Rattle.format.specs.Bytes.{bytes_at, same_bytes};
 ghost use Rattle.format.specs.Names.{unpadded};

@@ -1,1 +1,2 @@
 // What `open` answers: definitions in specs/, laws of them in proofs/. There is no code here.
+#![tactic(auto)]

@@ -1,4 +1,6 @@
 // Sealed module files opened for C callers, by the equation of the operation itself. A slice is passed as a pointer and a length.
+#![tactic(auto)]
+
 ghost use Rattle.std.specs.Prelude.{◌≡◌, length};
 ghost use Rattle.open_answers.specs.Open.{opened_of, text_after};
 

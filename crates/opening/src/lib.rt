@@ -1,4 +1,6 @@
 // Sealed module files opened with an envelope.
+#![tactic(auto)]
+
 ghost use Rattle.std.specs.Prelude.{◌≡◌, length};
 ghost use Rattle.buffers.specs.Handed.{written_unless, buffer_unless};
 ghost use Rattle.open_answers.specs.Open.{unread, opened_of, text_after};

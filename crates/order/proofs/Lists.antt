@@ -36,6 +36,7 @@ mem_at (a ∷ s) (suc i) d h = Memᴰ.tail (mem_at s i d (le_of_suc-le-suc h))
 
 -- a member of a list stands at some place of it
 pub mem_place : {A : Type 0} {a : A} (s : List A) (d : A) → Memᴰ a s → (i : ℕ) × (i < length s) × (get_or s i d ≡ a)
+mem_place {A = A} {a = a} [] d x' = elim x' [ ]
 mem_place (b ∷ s) d (Memᴰ.head e) = (zero, omega arith, sym e)
 mem_place (b ∷ s) d (Memᴰ.tail h) = let t = mem_place s d h in (suc t.0, suc-le-suc t.1, t.2)
 

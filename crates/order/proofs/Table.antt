@@ -53,6 +53,7 @@ joined_length (a ∷ r) (b ∷ s) e = ap suc (joined_length r s (omega arith))
 -- a pair of the list leads from its upper label down to its lower, and nothing else does
 pub linked_mem : (pairs : List Pair) {p : Pair} → Memᴰ p pairs → linked pairs p.lower p.upper ≡ true
 unfolding linked
+linked_mem [] {p = p} x' = elim x' [ ]
 linked_mem (q ∷ ps) {p} (Memᴰ.head e) = rw (← e, eq-eqb p.lower p.lower refl, eq-eqb p.upper p.upper refl) refl
 linked_mem (q ∷ ps) {p} (Memᴰ.tail h) = or_yes_right (eqb q.lower p.lower && eqb q.upper p.upper) (linked ps p.lower p.upper) (linked_mem ps h)
 

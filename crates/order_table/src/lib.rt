@@ -1,4 +1,6 @@
 // The order of labels as a table of 64 rows of 64 yes-or-no entries, built from a policy's over-pairs.
+#![tactic(auto)]
+
 ghost use Rattle.std.specs.Prelude.{min, ◌<◌, ◌≤◌, ◌≡◌, take};
 ghost use Rattle.order.specs.Table.{entry_at, alone, row_at, joined, Links, label_row, order_table};
 

@@ -1,16 +1,18 @@
 // How a call of a program ended, and the exit status that a script sees. Nothing here prints.
+#![tactic(auto)]
+
 ghost use Rattle.std.specs.Prelude.{◌≤◌, true, false, ◌≡◌, length};
 ghost use Rattle.decimals.specs.Worded.{refused_text};
 ghost use Rattle.outcomes.specs.Status.{status_of, Said, Ends, Printed};
 
 // How a call ends. `ok`: it was done, that is, the call was right and its files were read or made; once it is printed, standard output took its text too.
-// `refusal`: the number of the refusal, or 0. What it says is the first `length` bytes of `text`, which has room for the longest answer, a roster's text.
-#[derive(Drop)]
+// `refusal`: the number of the refusal, or 0. What it says is the first `length` bytes of `text`.
+#[derive(Clone, Copy)]
 pub struct Ended {
     pub ok: bool,
     pub refusal: u8,
     pub length: usize,
-    pub text: [u8; 86925],
+    pub text: [u8; 8192],
 }
 
 // The program's exit status.
@@ -34,16 +36,16 @@ pub fn failed() -> Ended
         ok: false,
         refusal: 0,
         length: 0,
-        text: [0u8; 86925],
+        text: [0u8; 8192],
     }
 }
 
 // A call that is done, with a refusal or 0, and says a text.
 fn say(refusal: u8, text: &[u8]) -> Ended
-    requires { length text.now ≤ 86_925 }
+    requires { length text.now ≤ 8192 }
     ensures { (result.ok ≡ true) × Said refusal text.now result }
 {
-    let mut kept = [0u8; 86925];
+    let mut kept = [0u8; 8192];
     let length = buffers::put_bytes(&mut kept, 0, text);
     Ended {
         ok: true,
@@ -65,7 +67,7 @@ fn refuse(number: u8) -> Ended
 
 // A call that is done, of an operation that refuses so, or else answers this text.
 fn conclude(refusal: u8, answer: &[u8]) -> Ended
-    requires { length answer.now ≤ 86_925 }
+    requires { length answer.now ≤ 8192 }
     ensures { (result.ok ≡ true) × Ends refusal answer.now result }
 {
     if refusal != 0 {
@@ -76,7 +78,7 @@ fn conclude(refusal: u8, answer: &[u8]) -> Ended
 
 // A call of an operation that refuses so, or else answers this text. `ok`: whether all that had to be read or made was; if not, it says nothing.
 pub fn ended_with(ok: bool, refusal: u8, answer: &[u8]) -> Ended
-    requires { length answer.now ≤ 86_925 }
+    requires { length answer.now ≤ 8192 }
     ensures { (result.ok ≡ ok) × Ends refusal answer.now result }
 {
     if ok {

@@ -1,4 +1,6 @@
 // The `OV` record of a policy file.
+#![tactic(auto)]
+
 ghost use Rattle.std.specs.Prelude.{◌≡◌, ◌+◌, ◌≤◌, length};
 ghost use Rattle.policy_file.specs.File.{place_of, pair_at};
 ghost use Rattle.policy_file.specs.Record.{over_kind};

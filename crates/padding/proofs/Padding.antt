@@ -3,7 +3,7 @@ use mathlib.Core.Path.{◌≡◌, refl, ap, ◌∙◌}
 use mathlib.Core.List.{List, [], ◌∷◌, ◌++◌, append_assoc}
 use Prim.Native.Nat.{ℕ, ◌+◌, ◌-◌, ◌*◌, ◌/◌, ◌%◌, ◌^◌, ◌<◌}
 use native.Mathlib.Omega.{arith}
-use lib.ListN.{length, set, take, drop, replicate, length-append, length-replicate}
+use lib.ListN.{length, set, drop, replicate, length-append, length-replicate}
 use Rattle.lists.specs.Buffer.{pasted, zero_filled}
 use Rattle.padding.specs.Padding.{word_bytes, length_block, zero_bytes, padding}
 use Rattle.lists.proofs.Pasted.{copied, stored_next, pasted_next, pasted_behind}
@@ -33,7 +33,7 @@ padding_length n =
 
 -- the last blocks: the rest is copied, the byte 0x80 stored after it, and the two words of the length written at the end
 pub written : (rest : List ℕ) (total end : ℕ) (copy with-hi with-lo : List ℕ) → length rest ≡ total % 64 → end ≡ length rest + 9 + zero_bytes (length rest)
-    → copy ≡ take (length rest) rest ++ drop (length rest) (replicate 128 0)
+    → copy ≡ rest ++ drop (length rest) (replicate 128 0)
     → with-hi ≡ pasted (set copy (length rest) 0x80) (end - 8) (word_bytes (total * 8 % 2 ^ 64 / 2 ^ 32))
     → with-lo ≡ pasted with-hi (end - 4) (word_bytes (total * 8 % 2 ^ 64 % 2 ^ 32))
     → with-lo ≡ zero_filled 128 (rest ++ padding total)

@@ -1,4 +1,6 @@
 // The padding of a message that SHA-256 hashes (FIPS 180-4, section 5.1.1), and words written as bytes.
+#![tactic(auto)]
+
 ghost use Rattle.std.specs.Prelude.{◌≡◌, ◌++◌, ◌+◌, ◌/◌, ◌%◌, ◌^◌, ◌≤◌, ◌<◌, length};
 ghost use Rattle.lists.specs.Buffer.{pasted, zero_filled};
 ghost use Rattle.padding.specs.Padding.{word_bytes, zero_bytes, padding};
@@ -39,7 +41,7 @@ pub fn last_blocks(rest: &[u8], total: usize) -> [u8; 128]
     let bits = (total as u64) << 3;
     let end = padded_end(n);
     let mut last = [0u8; 128];
-    bytes::copy(rest, &mut last);
+    last[..rest.len()].copy_from_slice(rest);
     last[n] = 0x80;
     put_word(&mut last, end - 8, (bits >> 32) as u32);
     put_word(&mut last, end - 4, (bits % 0x1_0000_0000) as u32);

@@ -1,4 +1,6 @@
 // For each label a parent of least weight.
+#![tactic(auto)]
+
 ghost use Rattle.std.specs.Prelude.{◌≤◌, ◌<◌, ◌≡◌};
 ghost use Rattle.order.specs.Table.{entry_at};
 ghost use Rattle.trees.specs.Weights.{takes};
@@ -6,14 +8,14 @@ ghost use Rattle.weights.specs.Tables.{entries, Falls};
 ghost use Rattle.parents.specs.Choices.{choice_of, chosen_of};
 
 // A label's parent and the parent's weight; for the top itself and its accounts.
-#[derive(Drop)]
+#[derive(Clone, Copy)]
 pub struct Choice {
     pub parent: usize,
     pub weight: u32,
 }
 
 // The choices of all labels. Entries past the labels are 0.
-#[derive(Drop)]
+#[derive(Clone, Copy)]
 pub struct Chosen {
     pub parents: [u8; 64],
     pub weights: [u32; 64],

@@ -8,24 +8,24 @@ use borrow.Author.Tests.{eq-eqb, ne_eqb, le-leb, lt-leb}
 use lib.Dec.{eqb, leb}
 use lib.ListN.{length, length-append}
 use Rattle.decimals.proofs.Digits.{decimal_short}
-use Rattle.decimals.specs.Decimal.{decimal}
+use Rattle.decimals.specs.Decimal.{decimal, capped}
 use Rattle.decimals.specs.Worded.{space}
 use Rattle.decimals.specs.Text.{bytes_of}
-use Rattle.places.specs.Told.{record_number, record_place, policy_place, envelope_place}
+use Rattle.places.specs.Told.{record_place, policy_place, envelope_place}
 
 -- a record
-module _ (records : List ℕ) (read number : ℕ) (e : number ≡ record_number read) where
-  pub record_parts : record_place records read ≡ records ++ (space ++ decimal number) ++ bytes_of ": "
+module _ (records : List ℕ) (read number : ℕ) (e : number ≡ capped read) where
+  pub record_parts : record_place records read ≡ records ++ (space ++ decimal (number + 1)) ++ bytes_of ": "
   unfolding record_place
   record_parts = rw e
 
-  pub record_length : length (record_place records read) ≡ length records + suc (length (decimal number)) + 2
+  pub record_length : length (record_place records read) ≡ length records + suc (length (decimal (number + 1))) + 2
   unfolding bytes_of
   record_length = rw record_parts (simp length-append (omega arith))
 
 pub record_short : (records : List ℕ) (read : ℕ) → length (record_place records read) ≤ length records + 13
 record_short records read =
-    omega (arith, record_length records read (record_number read) refl, decimal_short (record_number read))
+    omega (arith, record_length records read (capped read) refl, decimal_short (capped read + 1))
 
 -- a policy, and an envelope
 module _ (number read : ℕ) where

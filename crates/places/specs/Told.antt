@@ -1,16 +1,13 @@
 -- What a user is told of a refusal: where it was given, and what it means.
-use Rattle.std.specs.Prelude.{ℕ, suc, min, cond, ◌&&◌, List, ◌++◌, eqb, leb}
-use Rattle.decimals.specs.Decimal.{decimal}
+use Rattle.std.specs.Prelude.{ℕ, ◌+◌, cond, ◌&&◌, List, ◌++◌, eqb, leb}
+use Rattle.decimals.specs.Decimal.{decimal, capped}
 use Rattle.decimals.specs.Worded.{space}
 use Rattle.decimals.specs.Text.{bytes_of}
 use Rattle.refusals.specs.Refusals.{words_line}
 
--- the record of a file after those that were read; records are counted from 1, and no file that the programs read has 2 ^ 32 of them
-unfoldable pub record_number : (read : ℕ) → ℕ
-record_number read = min (suc read) 4294967295
-
+-- the record of a file after those that were read; records are counted from 1, and no file has 65,535
 unfoldable pub record_place : (records : List ℕ) (read : ℕ) → List ℕ
-record_place records read = records ++ (space ++ decimal (record_number read)) ++ bytes_of ": "
+record_place records read = records ++ (space ++ decimal (capped read + 1)) ++ bytes_of ": "
 
 -- a policy is refused by 2 to 9 at a record, else as a whole
 unfoldable pub policy_place : (number read : ℕ) → List ℕ

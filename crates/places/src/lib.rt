@@ -1,25 +1,16 @@
 // Where a refusal was given: the lines of refused policies, rosters, tree files and envelopes.
-ghost use Rattle.std.specs.Prelude.{◌≤◌, length, ◌≡◌};
+#![tactic(auto)]
+
+ghost use Rattle.std.specs.Prelude.{◌≤◌, length};
 ghost use Rattle.buffers.specs.Put.{Put};
-ghost use Rattle.places.specs.Told.{record_number, record_place, policy_place, envelope_place, policy_line, roster_line, tree_line, envelope_line};
+ghost use Rattle.places.specs.Told.{record_place, policy_place, envelope_place, policy_line, roster_line, tree_line, envelope_line};
 
-// The number of the record after those that were read. Records are counted from 1.
-fn record_number(read: usize) -> u32
-    ensures { result ≡ record_number read }
-{
-    if read < 4294967294 {
-        read as u32 + 1
-    } else {
-        4294967295
-    }
-}
-
-// Writes that a refusal was given at the record after those that were read.
+// Writes that a refusal was given at the record after those that were read. Records are counted from 1.
 fn put_record(out: &mut [u8], records: &[u8], read: usize) -> usize
     requires { length (record_place records.now read) ≤ length out.old }
     ensures { Put out.old out.new 0 (record_place records.now read) result }
 {
-    let number = record_number(read);
+    let number = decimals::capped(read) + 1;
     let next = buffers::put_bytes(out, 0, records);
     let end = decimals::put_number(out, next, number);
     buffers::put_bytes(out, end, b": ")

@@ -1,4 +1,6 @@
 // Prints the plan of the policy on standard input. It takes no arguments.
+#![tactic(auto)]
+
 ghost use Rattle.std.specs.Prelude.{ℕ, List};
 ghost use Rattle.outcomes.specs.Status.{Ends};
 ghost use Rattle.policy_file.specs.Whole.{policy_refusal};
@@ -7,22 +9,23 @@ ghost use Rattle.plan_texts.specs.Listing.{plan_text};
 use outcomes::Ended;
 
 // Reads a policy and prints its plan: that of some bytes, those which the system read.
-fn print_plan() -> Ended
+fn print_plan(rt: HostRuntime) -> Ended
     ensures { (policy : List ℕ) × Ends (policy_refusal policy) (plan_text policy) result }
 {
     // More than the 2,828 bytes that decide (`printed_front`, crate plan_texts).
     let mut policy = io::buffer();
-    let read = files::read_input(b"plan", &mut policy);
+    let read = files::read_input(rt, b"plan", &mut policy);
     let length = read.length;
     let ended = plan_verbs::plan(read.ok, &policy[..length]);
-    answers::print(b"plan", ended)
+    answers::print(rt, b"plan", ended)
 }
 
-fn main() {
-    if os::arg_count() == 1 {
-        print_plan();
+fn main(rt: HostRuntime) {
+    if arguments::count(rt) == 1 {
+        print_plan(rt);
     } else {
         messages::tell_line(
+            rt,
             b"plan",
             b"wrong number of arguments; call it as: plan <POLICY",
         );

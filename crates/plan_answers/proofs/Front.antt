@@ -19,7 +19,7 @@ use Rattle.policy_file.specs.Whole.{policy_refusal, label_count}
 use Rattle.policy_file.specs.declared.Policy.{Policy}
 use Rattle.trees.proofs.Sums.{sum_cong}
 use Rattle.trees.proofs.Tables.{SameCounts, SameTests, plan_agree, total_agree}
-use Rattle.trees.specs.Weights.{label_keys, total, plan, least}
+use Rattle.trees.specs.Weights.{label_keys, total, least}
 use Rattle.plan_answers.proofs.TreeChecks.{number_foreign, number_length}
 use Rattle.plan_answers.proofs.WeighAnswer.{weigh_policy_refused, weigh_tree_refused}
 use Rattle.plan_answers.proofs.WorkedTables.{planned_agree}

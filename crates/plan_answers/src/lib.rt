@@ -1,9 +1,10 @@
 // What is answered about a policy's plan and about an offered tree: types here, definitions in specs/, laws in proofs/. There is no code here.
+#![tactic(auto)]
 
 // For each label its parent, its weight (for the top its accounts) and the keys that one account holds, and the total of keys.
 // Entries past the label count are 0, and with a refusal everything is. `zeros` is always 0: there is no padding.
 #[repr(C)]
-#[derive(Drop)]
+#[derive(Clone, Copy)]
 pub struct Plan {
     pub refusal: u8,
     pub zeros: [u8; 3],
@@ -16,7 +17,7 @@ pub struct Plan {
 
 // The total of an offered tree, and whether no tree of the policy needs fewer; 0 and no with a refusal. `zeros` is always 0: there is no padding.
 #[repr(C)]
-#[derive(Drop)]
+#[derive(Clone, Copy)]
 pub struct Weighed {
     pub refusal: u8,
     pub least: bool,

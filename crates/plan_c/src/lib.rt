@@ -1,4 +1,6 @@
 // Plans and the weighing of trees for C callers, each function by the equation of the operation itself. A slice is passed as a pointer and a length.
+#![tactic(auto)]
+
 ghost use Rattle.std.specs.Prelude.{◌≡◌, length};
 ghost use Rattle.plan_answers.specs.Planned.{plan_of};
 ghost use Rattle.plan_answers.specs.Weighing.{weigh_of};

@@ -4,7 +4,7 @@ use mathlib.Core.List.{List, [], ◌∷◌}
 use mathlib.Core.Path.{◌≡◌, refl}
 use Rattle.format.specs.Names.{unpadded}
 use Rattle.lists.specs.Tables.{concat_below}
-use Rattle.plan_answers.proofs.WorkedExamples.{plan_e}
+use Rattle.plan_answers.proofs.WorkedExamples.{listing, plan_e}
 use Rattle.policy_file.proofs.Examples.{E}
 use Rattle.policy_file.specs.File.{name_of, count_of}
 use Rattle.policy_file.specs.Whole.{policy_of}
@@ -50,9 +50,13 @@ drawing_e =
     ∷ 32 ∷ 32 ∷ 108 ∷ 97 ∷ 98 ∷ 101 ∷ 108 ∷ 61 ∷ 34 ∷ 84 ∷ 79 ∷ 84 ∷ 65 ∷ 76 ∷ 32 ∷ 49 ∷ 55 ∷ 34 ∷ 59 ∷ 10
     ∷ 125 ∷ 10 ∷ []
 
+drawn_e : drawing E listing ≡ drawing_e
+unfolding drawing concat_below drawn node edge between ending fields field unpadded name_of count_of decimal digits_before
+drawn_e = refl
+
 pub dot_e : dot_text E ≡ drawing_e
-unfolding dot_text drawing concat_below drawn node edge between ending fields field unpadded name_of count_of decimal digits_before
-dot_e = rw plan_e
+unfolding dot_text
+dot_e = rw plan_e drawn_e
 
 -- REFUSED 1
 pub printed_empty : printed_drawing [] ≡ 82 ∷ 69 ∷ 70 ∷ 85 ∷ 83 ∷ 69 ∷ 68 ∷ 32 ∷ 49 ∷ 10 ∷ []

@@ -1,5 +1,7 @@
 // The issuer's verbs on policies and trees, over the bytes of their files: how a call ends and what it says. Nothing here prints. `read`: whether
 // the files could be read.
+#![tactic(auto)]
+
 ghost use Rattle.std.specs.Prelude.{◌≡◌};
 ghost use Rattle.growth_answers.specs.GrowthListing.{growth_text};
 ghost use Rattle.plan_texts.specs.Drawing.{dot_text};

@@ -1,4 +1,6 @@
 // The plan of a policy file.
+#![tactic(auto)]
+
 ghost use Rattle.std.specs.Prelude.{◌≡◌};
 ghost use Rattle.plan_answers.specs.Planned.{plan_of, rows_after};
 

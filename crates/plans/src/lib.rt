@@ -1,4 +1,6 @@
 // The plan of labels, from their accounts and their order.
+#![tactic(auto)]
+
 ghost use Rattle.std.specs.Prelude.{◌≡◌, ◌≤◌};
 ghost use Rattle.order.specs.Table.{entry_at};
 ghost use Rattle.weights.specs.Tables.{entries, Falls};

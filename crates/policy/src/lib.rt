@@ -1,4 +1,6 @@
 // A policy file read: the check at its end, and what it says.
+#![tactic(auto)]
+
 ghost use Rattle.std.specs.Prelude.{◌≡◌, ◌≤◌, ◌<◌};
 ghost use Rattle.lists.specs.Tables.{listed};
 ghost use Rattle.policy_file.specs.Whole.{is_lower, all_placed, refused_policy, policy_of};

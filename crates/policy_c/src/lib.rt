@@ -1,4 +1,6 @@
-// The reading of policies for C callers, each function by the equation of the operation itself. A slice is passed as a pointer and a length.
+// The reading of policies as C callers see it, each function by the equation of the operation itself. `policy_exports` exports them.
+#![tactic(auto)]
+
 ghost use Rattle.std.specs.Prelude.{◌≡◌};
 ghost use Rattle.policy_file.specs.Whole.{policy_of, policy_records_read};
 ghost use Rattle.policy_c.specs.Order.{in_line, rows_of};
@@ -7,21 +9,19 @@ use policy_file::Policy;
 
 // The order of a policy's labels: entry 64 * m + l says whether label m is at or below label l. All no with a refusal.
 #[repr(C)]
-#[derive(Drop)]
+#[derive(Clone, Copy)]
 pub struct Rows {
     pub refusal: u8,
     pub rows: [bool; 4096],
 }
 
-#[unsafe(no_mangle)]
-pub extern "C" fn yendlowa_read_policy(policy: &[u8]) -> Policy
+pub fn yendlowa_read_policy(policy: &[u8]) -> Policy
     ensures { result ≡ policy_of policy.now }
 {
     policy::read_policy(policy)
 }
 
-#[unsafe(no_mangle)]
-pub extern "C" fn yendlowa_policy_records(policy: &[u8]) -> usize
+pub fn yendlowa_policy_records(policy: &[u8]) -> usize
     ensures { result ≡ policy_records_read policy.now }
 {
     policy_reading::records_read(policy)
@@ -40,8 +40,7 @@ fn in_line(table: &[[bool; 64]; 64]) -> [bool; 4096]
     line
 }
 
-#[unsafe(no_mangle)]
-pub extern "C" fn yendlowa_order(policy: &[u8]) -> Rows
+pub fn yendlowa_order(policy: &[u8]) -> Rows
     ensures { result ≡ rows_of policy.now }
 {
     let read = policy::read_policy(policy);

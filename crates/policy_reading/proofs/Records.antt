@@ -1,18 +1,15 @@
 -- Laws of a file that is read record by record.
 use Prim.Native.Nat.{ℕ, suc, ◌+◌, ◌-◌, ◌≤◌, ◌<◌}
-use mathlib.Core.List.{List, [], ◌∷◌}
-use mathlib.Core.Logic.{inl, inr}
+use mathlib.Core.List.{List}
+use mathlib.Core.Logic.{◌≢◌}
 use mathlib.Core.Path.{◌≡◌, refl, sym, ap, ◌∙◌}
 use native.Mathlib.Omega.{arith}
 use lib.ListN.{length, replicate}
-use denote.Enum.Declared.{tag_of}
-use types.Run.{OneOf}
 use Rattle.order.specs.declared.Pair.{Pair}
 use Rattle.policy_file.proofs.Meaning.{label_iff, over_iff}
 use Rattle.policy_file.specs.File.{place_of}
 use Rattle.policy_file.specs.Record.{policy_kind, kind_number, with_name, record_at}
 use Rattle.policy_file.specs.Whole.{no_pair, with_label, with_pair, refused_there, scan_from, stop_of}
-use Rattle.policy_file.specs.contracts.Kind.{the_type}
 use Rattle.policy_file.specs.declared.Kind.TheVariants.{Label, Over, End, Refused}
 use Rattle.policy_file.specs.declared.Kind.{Kind}
 use Rattle.policy_file.specs.declared.Record.{Record}
@@ -94,16 +91,11 @@ module _ (file : List ℕ) (s : Policy) (r : Reading file s) where
   reading_refused : (number : ℕ) → policy_kind file s.labels s.pairs ≡ Refused number → stop_of file ≡ refused_there s number
   reading_refused number e = r.rest ∙ rw (more, scan_refused (577 - (s.labels + s.pairs + 1)) file s number e)
 
--- the end and a refusal are the kinds 2 and 3, after a label and a pair
-later_kind : (tag : ℕ) → OneOf (2 ∷ 3 ∷ []) tag → 2 ≤ tag
-later_kind tag (inl e) = omega (arith, e)
-later_kind tag (inr e) = omega (arith, e)
-
 -- a record that is neither a label nor a pair stops: at the end with 0, else with the number of the refusal
 module _ (file : List ℕ) (labels pairs : ℕ) (counts : List ℕ) (over : List Pair) (r : Reading file (so_far labels pairs counts over)) where
-  pub reading_stopped : (kind : Kind) → OneOf (2 ∷ 3 ∷ []) (tag_of the_type kind) → policy_kind file labels pairs ≡ kind
+  pub reading_stopped : (kind : Kind) → ((count : ℕ) → kind ≢ Label count) → ((pair : Pair) → kind ≢ Over pair) → policy_kind file labels pairs ≡ kind
       → stop_of file ≡ refused_there (so_far labels pairs counts over) (kind_number kind)
-  reading_stopped (Label count) h e = absurd (omega (arith, later_kind 0 h))
-  reading_stopped (Over pair) h e = absurd (omega (arith, later_kind 1 h))
-  reading_stopped End h e = reading_end file (so_far labels pairs counts over) r e
-  reading_stopped (Refused number) h e = reading_refused file (so_far labels pairs counts over) r number e
+  reading_stopped (Label count) label over e = absurd (label count refl)
+  reading_stopped (Over p) label pair e = absurd (pair p refl)
+  reading_stopped End label pair e = reading_end file (so_far labels pairs counts over) r e
+  reading_stopped (Refused number) label pair e = reading_refused file (so_far labels pairs counts over) r number e

@@ -1,4 +1,6 @@
 // The records of a policy file from the first on, up to where reading stops.
+#![tactic(auto)]
+
 ghost use Rattle.std.specs.Prelude.{◌≡◌};
 ghost use Rattle.policy_file.specs.Record.{kind_number};
 ghost use Rattle.policy_file.specs.Whole.{stop_of, policy_records_read};

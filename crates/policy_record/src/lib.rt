@@ -1,4 +1,6 @@
 // One record of a policy file, read after so many labels and pairs.
+#![tactic(auto)]
+
 ghost use Rattle.std.specs.Prelude.{◌≡◌, ◌≤◌, length};
 ghost use Rattle.policy_file.specs.File.{place_of};
 ghost use Rattle.policy_file.specs.Record.{record_at};

@@ -84,7 +84,7 @@ unfolding zero_filled numbered
 rest_number s h = little_zeros (s ++ (1 ∷ [])) (16 - length (s ++ (1 ∷ [])))
 
 pub absorbed_rest : (r a : ℕ) (s copy : List ℕ) (n v : ℕ) → 0 < length s → length s < 16
-    → copy ≡ take (length s) s ++ drop (length s) (replicate 16 0) → n ≡ little_endian (take 16 (drop 0 (set copy (length s) 1)))
+    → copy ≡ s ++ drop (length s) (replicate 16 0) → n ≡ little_endian (take 16 (drop 0 (set copy (length s) 1)))
     → v ≡ (a + (n + 2 ^ 128 * 0)) * r % prime → v ≡ absorbed r a s (blocks s)
 unfolding absorbed stepped blocks
 absorbed_rest r a s copy n v l h e f g =

@@ -1,4 +1,6 @@
 // Poly1305 (RFC 8439, section 2.5): the tag of a message under a one-time key of 32 bytes.
+#![tactic(auto)]
+
 ghost use Rattle.std.specs.Prelude.{◌≡◌, ◌+◌, ◌/◌, ◌%◌, ◌≤◌, ◌<◌, length, take, drop};
 ghost use Rattle.format.specs.Bytes.{same_bytes};
 ghost use Rattle.little_endian.specs.LittleEndian.{little_endian, little_bytes};
@@ -94,7 +96,7 @@ fn absorb_rest(h: Accumulator, r: Multiplier, rest: &[u8]) -> Accumulator
         return h;
     }
     let mut block = [0u8; 16];
-    bytes::copy(rest, &mut block);
+    block[..rest.len()].copy_from_slice(rest);
     block[n] = 1;
     let number = words_at(&block, 0);
     poly1305_limbs::step(h, r, number, 0)

@@ -1,11 +1,13 @@
 // The arithmetic of Poly1305 (RFC 8439, section 2.5) modulo 2^130 - 5: numbers as words of 32 bits, each in a u64. No branch depends on a number.
+#![tactic(auto)]
+
 ghost use Rattle.std.specs.Prelude.{◌≡◌, ◌+◌, ◌*◌, ◌/◌, ◌%◌, ◌^◌, ◌≤◌, ◌<◌};
 ghost use Rattle.poly1305_limbs.specs.Prime.{prime};
 ghost use Rattle.poly1305_limbs.specs.Limbs.{value, multiplier_value, words_value, Narrow, Reduced, Clamped};
 ghost use Rattle.poly1305_limbs.specs.Columns.{Wide, Carriable, Whole, plus, raised, column, product, carried, folded, quotient};
 
 // The accumulator: four words and a top.
-#[derive(Drop)]
+#[derive(Clone, Copy)]
 pub struct Accumulator {
     pub h0: u64,
     pub h1: u64,
@@ -15,7 +17,7 @@ pub struct Accumulator {
 }
 
 // The number that the accumulator is multiplied with.
-#[derive(Drop)]
+#[derive(Clone, Copy)]
 pub struct Multiplier {
     pub r0: u64,
     pub r1: u64,
@@ -24,7 +26,7 @@ pub struct Multiplier {
 }
 
 // A number below 2^128.
-#[derive(Drop)]
+#[derive(Clone, Copy)]
 pub struct Words {
     pub w0: u64,
     pub w1: u64,

@@ -1,4 +1,6 @@
 // The parts of an envelope, written: its header, and the record of one label.
+#![tactic(auto)]
+
 ghost use Rattle.std.specs.Prelude.{◌+◌, ◌*◌, ◌≤◌, ◌<◌, length};
 ghost use Rattle.buffers.specs.Put.{Put};
 ghost use Rattle.policy_file.specs.File.{name_of};

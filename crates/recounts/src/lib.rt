@@ -1,4 +1,6 @@
 // A policy file with other counts.
+#![tactic(auto)]
+
 ghost use Rattle.std.specs.Prelude.{◌+◌, ◌*◌, ◌≤◌, ◌<◌, ◌≡◌, length};
 ghost use Rattle.buffers.specs.Handed.{handed, handed_into};
 ghost use Rattle.policy_file.specs.Counts.{with_count, recounted};

@@ -8,7 +8,7 @@ use native.Mathlib.Omega.{arith}
 use borrow.Author.Tests.{ltb-true, leb-true}
 use lib.Dec.{ltb, leb}
 use lib.ListN.{length, get_or, take, drop, replicate, length-append, take-append-drop, get_or-map, get_or-append, get_or-eq_default}
-use lib.Seq.{take_at, drop_at}
+use lib.Seq.{take_at, drop_at, length-take-le}
 use Rattle.decimals.specs.Text.{bytes_of}
 use Rattle.decimals.specs.Worded.{newline}
 use Rattle.format.proofs.Bytes.{and_true}
@@ -112,8 +112,12 @@ module _ (number : ℕ) (text : List ℕ) (n : ℕ) (e : first_line text ≡ wor
   pub words_short : length (take (n - 1) text) ≤ 80
   words_short = rw words_taken (omega (arith, (text_terminated number).short))
 
+  pub words_room : n - 1 ≤ 80
+  words_room = rw (length-take-le (n - 1) text (omega (arith, words_within))) at words_short
+
   -- copied over 80 zeros
-  pub words_copied : {after : List ℕ} → after ≡ take (length (take (n - 1) text)) (take (n - 1) text) ++ drop (length (take (n - 1) text)) (replicate 80 0)
-      → after ≡ text_of number
-  unfolding text_of
-  words_copied h = h ∙ copied 80 (take (n - 1) text) words_short ∙ ap (zero_filled 80) words_taken
+  pub words_copied : {copy : List ℕ} → copy ≡ take (n - 1) text → copy ++ drop (n - 1) (replicate 80 0) ≡ text_of number
+  unfolding text_of zero_filled
+  words_copied h =
+      let size : n - 1 ≡ length (refusal_words number) = omega (arith, words_length) in
+      rw (h, words_taken, size) (copied 80 (refusal_words number) (rw words_taken at words_short))

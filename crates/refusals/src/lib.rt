@@ -1,4 +1,6 @@
 // What a refusal means, in words.
+#![tactic(auto)]
+
 mod words;
 
 ghost use Rattle.std.specs.Prelude.{◌≡◌, ◌+◌, ◌≤◌, length};
@@ -8,7 +10,7 @@ ghost use Rattle.refusals.specs.Refusals.{text_of, words_line};
 
 // What a number means, with zeros after it, so null-terminated for callers in C.
 #[repr(C)]
-#[derive(Drop)]
+#[derive(Clone, Copy)]
 pub struct Text {
     pub text: [u8; 80],
 }
@@ -59,6 +61,6 @@ pub fn refusal_text(number: u8) -> Text
     let line = words::meaning(number);
     let end = line_length(&line) - 1;
     let mut text = [0u8; 80];
-    bytes::copy(&line[..end], &mut text);
+    text[..end].copy_from_slice(&line[..end]);
     Text { text }
 }

@@ -1,5 +1,7 @@
 // What the issuer's and the desk's libraries have in common for C callers: refusals in words, names padded. Each function by the equation of the
 // operation itself. A slice is passed as a pointer and a length.
+#![tactic(auto)]
+
 ghost use Rattle.std.specs.Prelude.{◌≡◌, length};
 ghost use Rattle.buffers.specs.Handed.{handed, handed_into};
 ghost use Rattle.command.specs.Typed.{padded_name};

@@ -1,4 +1,6 @@
 // A roster read, written as text and counted, for C callers, each function by the equation of the operation itself. A slice is passed as a pointer and a length.
+#![tactic(auto)]
+
 ghost use Rattle.std.specs.Prelude.{◌≡◌, length};
 ghost use Rattle.roster_answers.specs.Counted.{counted_written, counted_after};
 ghost use Rattle.roster_answers.specs.Records.{roster_records_read};

@@ -1,4 +1,6 @@
 // One record of a roster file: what it says, read with the names of a policy, and how many bytes it has.
+#![tactic(auto)]
+
 ghost use Rattle.std.specs.Prelude.{◌≡◌, ◌+◌, ◌*◌, ◌-◌, ◌≤◌, length};
 ghost use Rattle.roster_file.specs.File.{target_in, entry_at, size_of};
 ghost use Rattle.roster_entry.specs.Short.{short_entry};

@@ -1,4 +1,6 @@
 // Keys, envelopes and sealed files of a policy with the counts of a roster.
+#![tactic(auto)]
+
 ghost use Rattle.std.specs.Prelude.{◌≡◌, length};
 ghost use Rattle.roster_answers.specs.Counted.{roster_key, roster_sealed, roster_file_after};
 ghost use Rattle.roster_answers.specs.Issue.{roster_issued, roster_envelope_after};

@@ -1,4 +1,6 @@
 // Keys, envelopes and sealed files by the counts of a roster, for C callers, each function by the equation of the operation itself. A slice is passed as a pointer and a length.
+#![tactic(auto)]
+
 ghost use Rattle.std.specs.Prelude.{◌≡◌, length};
 ghost use Rattle.roster_answers.specs.Counted.{roster_key, roster_sealed, roster_file_after};
 ghost use Rattle.roster_answers.specs.Issue.{roster_issued, roster_envelope_after};

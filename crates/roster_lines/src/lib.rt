@@ -1,4 +1,6 @@
 // A roster as text: a line for each account that is not unknown, a line for each label, and the sum of all accounts.
+#![tactic(auto)]
+
 ghost use Rattle.std.specs.Prelude.{◌++◌, ◌≡◌, ◌+◌, ◌*◌, ◌≤◌, ◌<◌, length};
 ghost use Rattle.buffers.specs.Put.{Put};
 ghost use Rattle.decimals.specs.Worded.{space, worded};

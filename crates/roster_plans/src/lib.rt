@@ -1,4 +1,6 @@
 // Plans, weighings and the cost of growth of a policy with the counts of a roster.
+#![tactic(auto)]
+
 ghost use Rattle.std.specs.Prelude.{◌≡◌};
 ghost use Rattle.roster_answers.specs.Counted.{roster_plan, roster_weighed, roster_growth};
 

@@ -154,3 +154,23 @@ module _ (policy : List ℕ) (labels : ℕ) (file : List ℕ) where
       → (next : ℕ) → next ≡ place_after entry r at → (t' : ℕ) × (t' < t) × Reached whole t' r next after
   obeyed whole t refusal at roster h g entry e r after told next n =
       rw (n, told.0, told.1, e) (turns whole t refusal at roster h g)
+
+  -- the bytes that are left to read, 0 after a refusal: a record that is read leaves fewer
+  abbrev pub left : (refusal at : ℕ) → ℕ
+  left refusal at = cond (eqb refusal 0) (length file + 1 - at) 0
+
+  fewer : (at : ℕ) (entry : Entry) → at < length file → (c : Change) → Sound (size_of entry) c → left (number_of c) (place_after entry (number_of c) at) < length file + 1 - at
+  unfolding place_after
+  fewer at entry l (sets s) sound = omega arith
+  fewer at entry l (refuses n) sound =
+      let some : eqb n 0 ≡ false = ne_eqb n 0 (λ z. omega (arith, sound, z)) in
+      rw some (omega arith)
+
+  pub leaves_fewer : (refusal at : ℕ) (roster : Roster) → goes_on file refusal at ≡ true
+      → (entry : Entry) → entry ≡ entry_at policy labels file at → (r : ℕ) → r ≡ number_of (asked_of roster entry)
+      → (next : ℕ) → next ≡ place_after entry r at → left r next < left refusal at
+  leaves_fewer refusal at roster g entry e r told next n =
+      let on = goes_true refusal at g in
+      let read = entry_at policy labels file at in
+      rw (n, told, e, eq-eqb refusal 0 on.0)
+      (fewer at read on.1 (asked_of roster read) (asked_sound (length file - at) read (entry_fits policy labels file at) roster))

@@ -1,4 +1,6 @@
 // A roster file, record by record: the roster in hand is lent to each record and altered there.
+#![tactic(auto)]
+
 ghost use Rattle.std.specs.Prelude.{◌≡◌, ◌+◌, ◌*◌, ◌^◌, ◌≤◌, ◌<◌, length};
 ghost use Rattle.roster_file.specs.File.{size_of};
 ghost use Rattle.roster_file.specs.Machine.{empty_roster, number_of, asked_of, changed, account_of};
@@ -8,7 +10,7 @@ ghost use Rattle.roster_reading.specs.Place.{goes_on, place_after, stop_at};
 use roster_file::{Account, Entry, Roster, Standing, Stop};
 
 // Where reading has come to: at which byte, and the number that the record there is refused under, 0 if none is.
-#[derive(Drop)]
+#[derive(Clone, Copy)]
 pub struct Place {
     pub refusal: u8,
     pub at: usize,

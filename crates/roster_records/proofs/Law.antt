@@ -2,7 +2,8 @@
 use Prim.Native.Nat.{ℕ, ◌-◌}
 use mathlib.Core.Bool.{Bool, true, false}
 use mathlib.Core.Path.{◌≡◌, refl, sym, ◌∙◌, ap, subst}
-use lib.ListN.{set}
+use mathlib.Core.List.{List}
+use lib.ListN.{get_or, set}
 use lib.Seq.{set-get_or}
 use Rattle.roster_file.specs.Machine.{Change, sets, refuses, is_number, standing_so, standing_of, with_standing, number_of, changed}
 use Rattle.roster_file.specs.declared.Account.{Account}
@@ -10,7 +11,13 @@ use Rattle.roster_file.specs.declared.Roster.{Roster}
 use Rattle.roster_file.specs.declared.Standing.TheVariants.{Unknown}
 use Rattle.roster_file.specs.declared.Standing.{Standing}
 use Rattle.roster_steps.specs.Step.{place_of, seen_as, stepped_by}
-use Rattle.roster_records.proofs.Opened.{having, account_at}
+
+-- a roster of these accounts, and the account at a place of it
+abbrev pub having : List Account → Roster
+having xs = record { accounts = xs }
+
+abbrev pub account_at : List Account → ℕ → Account
+account_at xs i = get_or xs i (standing_so Unknown)
 
 -- the account that stands at the place of a number
 abbrev pub account_of_lem : Roster → (number : ℕ) → Account

@@ -1,4 +1,1 @@
-pub mod Alone
 pub mod Law
-pub mod Opened
-pub mod WithTarget

@@ -1,5 +1,7 @@
 // The records of a roster file, each on a roster that is lent: it is altered in place. Every test is in the crate `roster_steps`, so that these functions have no
 // branch.
+#![tactic(auto)]
+
 ghost use Rattle.std.specs.Prelude.{◌≡◌};
 ghost use Rattle.roster_file.specs.Machine.{number_of, changed, asked_of};
 ghost use Rattle.roster_file.specs.declared.Entry.TheVariants.{Join, Move, Hold, Release, Withdraw};

@@ -1,4 +1,6 @@
 // What each record of a roster file does to its account, by value. A number out of 1 to 4,096 is handled as an unknown account.
+#![tactic(auto)]
+
 ghost use Rattle.std.specs.Prelude.{◌≡◌, ◌<◌};
 ghost use Rattle.roster_file.specs.Machine.{refuses, is_number, placing, joining, moving, holding, releasing, withdrawing};
 ghost use Rattle.roster_steps.specs.Step.{place_of, seen_as, stands_so, stepped_by};

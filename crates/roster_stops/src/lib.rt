@@ -1,4 +1,6 @@
 // How many records of a roster file are read before the first refused one.
+#![tactic(auto)]
+
 ghost use Rattle.std.specs.Prelude.{◌≡◌, ◌*◌, ◌≤◌, length};
 ghost use Rattle.roster_answers.specs.Records.{records_before, roster_records_read};
 

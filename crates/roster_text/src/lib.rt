@@ -1,4 +1,6 @@
 // A roster as text and as tables.
+#![tactic(auto)]
+
 ghost use Rattle.std.specs.Prelude.{◌≡◌, length};
 ghost use Rattle.roster_answers.specs.RosterText.{roster_written, roster_after};
 ghost use Rattle.roster_answers.specs.Standings.{refused_standings, roster_read};

@@ -1,4 +1,6 @@
 // The texts of a plan, of its drawing and of the cost of growth, for a policy with the counts of a roster.
+#![tactic(auto)]
+
 ghost use Rattle.std.specs.Prelude.{◌≡◌, length};
 ghost use Rattle.roster_answers.specs.Counted.{roster_text_written, roster_text_after, roster_drawing_written, roster_drawing_after, roster_growth_written, roster_growth_after};
 

@@ -1,4 +1,6 @@
 // A policy and a roster of its accounts: both files read, and the policy with the roster's counts.
+#![tactic(auto)]
+
 ghost use Rattle.std.specs.Prelude.{◌≡◌, length};
 ghost use Rattle.roster_answers.specs.Counted.{counted_written, counted_after};
 ghost use Rattle.roster_answers.specs.Rostered.{refused_rostered, rostered_of};

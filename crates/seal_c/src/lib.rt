@@ -1,4 +1,6 @@
 // Sealed module files written for C callers, by the equation of the operation itself. A slice is passed as a pointer and a length.
+#![tactic(auto)]
+
 ghost use Rattle.std.specs.Prelude.{◌≡◌, length};
 ghost use Rattle.seal_answers.specs.Seal.{sealed_of, file_after};
 

@@ -1,4 +1,6 @@
 // The arguments of `yendlowa seal`. Wrong calls are told before any file is read or made.
+#![tactic(auto)]
+
 ghost use Rattle.std.specs.Prelude.{◌≤◌, ◌≡◌};
 ghost use Rattle.seal_call.specs.Sealed.{SealEnds};
 
@@ -16,33 +18,48 @@ fn seal_argument(number: u8, nonce: usize, at: usize) -> usize
 }
 
 // Reports a call of `seal`, which was printed when the file was saved. `nonce`: how long that is.
-fn report(program: &[u8], at: usize, policy: &[u8], nonce: usize, printed: Ended) -> Ended
+fn report(
+    rt: HostRuntime,
+    program: &[u8],
+    at: usize,
+    policy: &[u8],
+    nonce: usize,
+    printed: Ended,
+) -> Ended
     requires { at ≤ 3 }
     ensures { result ≡ printed }
 {
     if printed.ok && printed.refusal != 0 {
         let argument = seal_argument(printed.refusal, nonce, at);
-        policy_messages::tell_asked(program, at, argument, policy, printed.refusal);
+        policy_messages::tell_asked(rt, program, at, argument, policy, printed.refusal);
     }
     printed
 }
 
 // `seal`, with the policy and the root secret that were read
-fn seal_under(program: &[u8], at: usize, option: bool, policy: &[u8], root: &[u8]) -> Ended
+fn seal_under(
+    rt: HostRuntime,
+    program: &[u8],
+    at: usize,
+    option: bool,
+    policy: &[u8],
+    root: &[u8],
+) -> Ended
     requires { at ≤ 3 }
     ensures { SealEnds option result }
 {
     // Longer ones have the answer of their first 4,096 and 32,769 bytes (`file_nonce_front`, `file_text_front`, crate seal_answers).
     let mut nonce = io::buffer();
     let mut text = [0u8; 32769];
-    let read = files::read_both(program, at + 3, at + 4, &mut nonce, &mut text);
+    let read = files::read_both(rt, program, at + 3, at + 4, &mut nonce, &mut text);
     let mut name = io::buffer();
-    let name_length = arguments::name_argument(at + 1, &mut name);
+    let name_length = arguments::name_argument(rt, at + 1, &mut name);
     let mut out = io::buffer();
-    let out_length = arguments::argument(at + 5, &mut out);
+    let out_length = arguments::argument(rt, at + 5, &mut out);
     let nonce_length = read.first;
     let text_length = read.second;
     let printed = seal_verb::seal(
+        rt,
         program,
         read.ok,
         policy,
@@ -53,14 +70,14 @@ fn seal_under(program: &[u8], at: usize, option: bool, policy: &[u8], root: &[u8
         option,
         &out[..out_length],
     );
-    report(program, at, policy, nonce_length, printed)
+    report(rt, program, at, policy, nonce_length, printed)
 }
 
 // How often argument i names standard input: 1 or 0.
-fn input(i: usize) -> usize
+fn input(rt: HostRuntime, i: usize) -> usize
     ensures { result ≤ 1 }
 {
-    if arguments::is_argument(i, b"-") {
+    if arguments::is_argument(rt, i, b"-") {
         1
     } else {
         0
@@ -68,34 +85,35 @@ fn input(i: usize) -> usize
 }
 
 // Whether two of POLICY, ROOT, NONCE and TEXT name standard input, which is then told.
-fn is_twice_input(program: &[u8], at: usize) -> bool
+fn is_twice_input(rt: HostRuntime, program: &[u8], at: usize) -> bool
     requires { at ≤ 3 }
 {
-    if input(at) + input(at + 2) + input(at + 3) + input(at + 4) < 2 {
+    if input(rt, at) + input(rt, at + 2) + input(rt, at + 3) + input(rt, at + 4) < 2 {
         return false;
     }
-    files::tell_twice(program);
+    files::tell_twice(rt, program);
     true
 }
 
 // `seal [--fingerprint] POLICY NAME ROOT NONCE TEXT OUT`; `at`: the place of POLICY
-pub fn seal(program: &[u8], at: usize, option: bool) -> Ended
+pub fn seal(rt: HostRuntime, program: &[u8], at: usize, option: bool) -> Ended
     requires { at ≤ 3 }
     ensures { SealEnds option result }
 {
-    if new_file::is_no_file(program, at + 5) || is_twice_input(program, at) {
+    if new_file::is_no_file(rt, program, at + 5) || is_twice_input(rt, program, at) {
         return outcomes::failed();
     }
     // As above (`file_front`, `file_root_front`, crate seal_answers).
     let mut policy = io::buffer();
     let mut root = io::buffer();
-    let read = files::read_both(program, at, at + 2, &mut policy, &mut root);
+    let read = files::read_both(rt, program, at, at + 2, &mut policy, &mut root);
     if !read.ok {
         return outcomes::failed();
     }
     let policy_length = read.first;
     let root_length = read.second;
     seal_under(
+        rt,
         program,
         at,
         option,

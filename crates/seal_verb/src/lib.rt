@@ -1,4 +1,6 @@
 // The issuer's verb `seal`, over the bytes of the files that it reads.
+#![tactic(auto)]
+
 ghost use Rattle.std.specs.Prelude.{false, ◌≡◌, length};
 ghost use Rattle.fingerprint.specs.Fingerprint.{fingerprint_of};
 ghost use Rattle.lines.specs.Lines.{sealed_text};
@@ -20,20 +22,28 @@ fn tell_saved(saved: Saved, root: &[u8], option: bool) -> Ended
 }
 
 // Saves a sealed file and prints the length of what was saved. One that cannot be told of is removed again.
-fn keep_file(program: &[u8], out: &[u8], file: &[u8], root: &[u8], option: bool) -> Ended
+fn keep_file(
+    rt: HostRuntime,
+    program: &[u8],
+    out: &[u8],
+    file: &[u8],
+    root: &[u8],
+    option: bool,
+) -> Ended
     ensures { Said 0 (sealed_text (length file.now) (fingerprint_of root.now).bytes option) result }
 {
-    let saved = new_file::save(program, out, file);
+    let saved = new_file::save(rt, program, out, file);
     let made = saved.ok;
-    let told = answers::print(program, tell_saved(saved, root, option));
+    let told = answers::print(rt, program, tell_saved(saved, root, option));
     if made && !told.ok {
-        new_file::remove(program, out);
+        new_file::remove(rt, program, out);
     }
     told
 }
 
 // Writes the sealed file of a text to a new file. `read`: whether the files could be read.
 pub fn seal(
+    rt: HostRuntime,
     program: &[u8],
     read: bool,
     policy: &[u8],
@@ -54,8 +64,8 @@ pub fn seal(
     let mut file = [0u8; 32806];
     let sealed = sealing::seal(policy, name, root, nonce, text, &mut file);
     if sealed.refusal != 0 {
-        return answers::print(program, outcomes::ended_with(true, sealed.refusal, b""));
+        return answers::print(rt, program, outcomes::ended_with(true, sealed.refusal, b""));
     }
     let length = sealed.length;
-    keep_file(program, out, &file[..length], root, option)
+    keep_file(rt, program, out, &file[..length], root, option)
 }

@@ -1,4 +1,6 @@
 // What sealing and opening share: a nonce read, and a text encrypted or decrypted into a buffer.
+#![tactic(auto)]
+
 ghost use Rattle.std.specs.Prelude.{◌≡◌, ◌+◌, ◌≤◌, length};
 ghost use Rattle.aead.specs.Aead.{ciphered};
 ghost use Rattle.buffers.specs.Put.{Put};
@@ -10,7 +12,7 @@ pub fn read_nonce(s: &[u8], at: usize) -> [u8; 12]
     ensures { result ≡ bytes_at s.now at 12 }
 {
     let mut nonce = [0u8; 12];
-    bytes::copy(&s[at..at + 12], &mut nonce);
+    nonce.copy_from_slice(&s[at..at + 12]);
     nonce
 }
 

@@ -1,4 +1,6 @@
 // Sealed module files written for the labels of a policy.
+#![tactic(auto)]
+
 ghost use Rattle.std.specs.Prelude.{◌≡◌, ◌++◌, ◌+◌, ◌-◌, ◌≤◌, length};
 ghost use Rattle.aead.specs.Aead.{tag_of};
 ghost use Rattle.buffers.specs.Handed.{handed, handed_into};

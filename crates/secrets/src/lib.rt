@@ -1,4 +1,6 @@
 // The secrets of a policy's labels, each made from its parent's.
+#![tactic(auto)]
+
 ghost use Rattle.std.specs.Prelude.{◌≢◌, ◌≡◌, ◌+◌, ◌≤◌};
 ghost use Rattle.trees.specs.Trees.{top};
 ghost use Rattle.weights.specs.Tables.{entries};

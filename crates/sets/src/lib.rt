@@ -1,4 +1,6 @@
 // Smallest sets from the order table and the parents: the labels in them, their sizes, and the keys of all accounts.
+#![tactic(auto)]
+
 ghost use Rattle.std.specs.Prelude.{◌+◌, ◌≤◌, ◌<◌, cond, ◌≡◌};
 ghost use Rattle.order.specs.Table.{entry_at};
 ghost use Rattle.trees.specs.Weights.{in_smallest};

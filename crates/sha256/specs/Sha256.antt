@@ -1,5 +1,5 @@
 -- SHA-256 of a message of bytes (FIPS 180-4, sections 5.2.1 and 6.2).
-use Rattle.std.specs.Prelude.{List, [], ◌∷◌, ◌++◌, ℕ, zero, suc, ◌*◌, ◌/◌, length, get_or, take, drop}
+use Rattle.std.specs.Prelude.{List, [], ◌++◌, ℕ, zero, suc, ◌*◌, ◌/◌, length, get_or, take, drop}
 use Rattle.sha256_constants.specs.Constants.{initial}
 use Rattle.padding.specs.Padding.{word_bytes, padding}
 use Rattle.compression.specs.Compression.{compressed}

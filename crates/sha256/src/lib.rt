@@ -1,4 +1,6 @@
 // SHA-256 (FIPS 180-4) of a message of bytes.
+#![tactic(auto)]
+
 ghost use Rattle.std.specs.Prelude.{◌≡◌, ◌++◌, ◌+◌, ◌*◌, ◌/◌, ◌≤◌, length};
 ghost use Rattle.padding.specs.Padding.{padding};
 ghost use Rattle.sha256.specs.Sha256.{chained, joined, digest_from, hash};
@@ -6,7 +8,7 @@ ghost use Rattle.sha256.specs.Digest.{too_long, sha256_of};
 
 // A digest, or a refusal with 32 zero bytes.
 #[repr(C)]
-#[derive(Drop)]
+#[derive(Clone, Copy)]
 pub struct Digest {
     pub refusal: u8,
     pub bytes: [u8; 32],

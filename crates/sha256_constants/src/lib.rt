@@ -1,4 +1,6 @@
 // The constants of SHA-256 (FIPS 180-4): the round words and the initial hash value.
+#![tactic(auto)]
+
 ghost use Rattle.std.specs.Prelude.{◌≡◌};
 ghost use Rattle.sha256_constants.specs.Constants.{round_words, initial};
 

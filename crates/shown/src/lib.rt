@@ -1,4 +1,6 @@
 // A value that was typed as a message shows it, without control characters.
+#![tactic(auto)]
+
 ghost use Rattle.std.specs.Prelude.{◌≡◌, length};
 ghost use Rattle.buffers.specs.Handed.{handed, handed_into};
 ghost use Rattle.shown.specs.Shown.{is_control, shown_byte, shown};

@@ -1,4 +1,6 @@
 // The envelope of an account by how it stands: what it is refused under, and the envelope handed out.
+#![tactic(auto)]
+
 ghost use Rattle.std.specs.Prelude.{◌≡◌, length};
 ghost use Rattle.roster_answers.specs.Issue.{activity_refusal, standing_refusal, standing_issued, standing_after};
 

@@ -1,4 +1,6 @@
 // How the accounts of a roster stand, as tables of numbers.
+#![tactic(auto)]
+
 ghost use Rattle.std.specs.Prelude.{◌≡◌};
 ghost use Rattle.lists.specs.Tables.{listed};
 ghost use Rattle.roster_answers.specs.Standings.{activity_number, state_number, place_number, state_at, place_at};

@@ -1,4 +1,6 @@
 // The accounts of a roster, counted by label.
+#![tactic(auto)]
+
 ghost use Rattle.std.specs.Prelude.{◌<◌, ◌≡◌};
 ghost use Rattle.lists.specs.Tables.{listed};
 ghost use Rattle.roster_file.specs.Counts.{count_in};

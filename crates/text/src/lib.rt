@@ -1,4 +1,6 @@
 // The plan as text.
+#![tactic(auto)]
+
 ghost use Rattle.std.specs.Prelude.{◌≡◌, ◌≤◌, length};
 ghost use Rattle.buffers.specs.Put.{Put};
 ghost use Rattle.plan_texts.specs.Listing.{lines, listing};

@@ -1,4 +1,6 @@
 // Whether a file is a text: how a text is recognised that was handed in instead of a policy or a tree file.
+#![tactic(auto)]
+
 ghost use Rattle.std.specs.Prelude.{◌≡◌};
 ghost use Rattle.text_file.specs.Texts.{is_text_byte, all_text, has_line, is_text};
 

@@ -1,4 +1,6 @@
 // The lines of the plan's text, one for each label.
+#![tactic(auto)]
+
 ghost use Rattle.std.specs.Prelude.{◌+◌, ◌≤◌, ◌<◌, length};
 ghost use Rattle.buffers.specs.Put.{Put};
 ghost use Rattle.plan_texts.specs.Listing.{parent_name, names, line};

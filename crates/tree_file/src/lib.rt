@@ -1,4 +1,6 @@
 // The tree file: its refusals, and the parents that it gives.
+#![tactic(auto)]
+
 ghost use Rattle.std.specs.Prelude.{◌≡◌, ◌+◌, ◌≤◌, ◌<◌, length};
 ghost use Rattle.lists.specs.Tables.{filled};
 ghost use Rattle.order.specs.Table.{entry_at};

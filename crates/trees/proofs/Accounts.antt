@@ -13,7 +13,7 @@ use Rattle.trees.specs.Trees.{Once}
 use Rattle.trees.specs.Order.{Order}
 use Rattle.trees.specs.Weights.{weighed, weight}
 use Rattle.trees.specs.Accounts.{Account, Exists, OpensBut, NumberOf}
-use Rattle.trees.proofs.Lists.{answers, once_length, once_snoc, once_append}
+use Rattle.trees.proofs.Lists.{once_length, once_snoc, once_append}
 use Rattle.trees.proofs.Published.{gamma}
 
 -- ---- the accounts of one label

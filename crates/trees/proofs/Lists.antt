@@ -41,6 +41,7 @@ pub record Without {A : Type 0} (x : A) (s : List A) : Type 0 where
   pub keeps : (y : A) → Memᴰ y s → y ≢ x → Memᴰ y rest
 
 pub take_out : {A : Type 0} {x : A} {s : List A} → Memᴰ x s → Without x s
+take_out {A = A} {x = x} {s = []} x3 = elim x3 [ ]
 take_out {A} {x} {s = a ∷ s} (Memᴰ.head e) = record { rest = s; shorter = refl; keeps = λ y m ne. go y ne (Memᴰ.cases_cons m) }
   where
     go : (y : A) → y ≢ x → (y ≡ a) ⊎ Memᴰ y s → Memᴰ y s

@@ -1,32 +1,33 @@
 // The operations with a roster of accounts. What they answer is printed as without one. `asked` has the label's name, and after it what else is asked for.
-use crate::{envelopes, modules, policies};
+use crate::{keys, modules, policies};
 
 // The policy with the roster's counts.
-pub(crate) fn policy(policy: &[u8], roster: &[u8], buffer: &mut [u8]) {
+pub(crate) fn policy(rt: HostRuntime, policy: &[u8], roster: &[u8], buffer: &mut [u8]) {
     let w = rosters::count_policy(policy, roster, buffer);
-    modules::tell(w.refusal, w.length, buffer);
+    modules::tell(rt, w.refusal, w.length, buffer);
 }
 
 // The policy's plan.
-pub(crate) fn plan(policy: &[u8], roster: &[u8]) {
-    policies::tell_plan(roster_plans::plan_roster(policy, roster));
+pub(crate) fn plan(rt: HostRuntime, policy: &[u8], roster: &[u8]) {
+    policies::tell_plan(rt, roster_plans::plan_roster(policy, roster));
 }
 
 // An offered tree of the policy.
-pub(crate) fn tree(policy: &[u8], roster: &[u8], offered: &[u8]) {
-    policies::tell_tree(roster_plans::weigh_roster(policy, roster, offered));
+pub(crate) fn tree(rt: HostRuntime, policy: &[u8], roster: &[u8], offered: &[u8]) {
+    policies::tell_tree(rt, roster_plans::weigh_roster(policy, roster, offered));
 }
 
 // The key of a label. After the name comes the root secret.
-pub(crate) fn key(policy: &[u8], roster: &[u8], asked: &[u8]) {
+pub(crate) fn key(rt: HostRuntime, policy: &[u8], roster: &[u8], asked: &[u8]) {
     if 8 <= asked.len() {
         let k = roster_issuer::issuer_key_roster(policy, roster, &asked[0..8], &asked[8..]);
-        envelopes::tell_key(k);
+        keys::tell_key(rt, k);
     }
 }
 
 // An account's envelope. After the name comes the root secret.
 pub(crate) fn envelope(
+    rt: HostRuntime,
     policy: &[u8],
     roster: &[u8],
     asked: &[u8],
@@ -42,12 +43,18 @@ pub(crate) fn envelope(
             &asked[8..],
             buffer,
         );
-        envelopes::tell_envelope(w.refusal, w.length, buffer);
+        keys::tell_envelope(rt, w.refusal, w.length, buffer);
     }
 }
 
 // A text sealed for a label. After the name come the root secret, the nonce and the text.
-pub(crate) fn sealed(policy: &[u8], roster: &[u8], asked: &[u8], buffer: &mut [u8]) {
+pub(crate) fn sealed(
+    rt: HostRuntime,
+    policy: &[u8],
+    roster: &[u8],
+    asked: &[u8],
+    buffer: &mut [u8],
+) {
     if 52 <= asked.len() {
         let w = roster_issuer::seal_roster(
             policy,
@@ -58,6 +65,6 @@ pub(crate) fn sealed(policy: &[u8], roster: &[u8], asked: &[u8], buffer: &mut [u
             &asked[52..],
             buffer,
         );
-        modules::tell(w.refusal, w.length, buffer);
+        modules::tell(rt, w.refusal, w.length, buffer);
     }
 }

@@ -18,32 +18,32 @@ fn once(file: &[u8]) -> [u8; 12] {
 }
 
 // The first bytes of a block of the key stream.
-pub(crate) fn block(key: &[u8], counter: u16, nonce: &[u8], shown: usize) {
+pub(crate) fn block(rt: HostRuntime, key: &[u8], counter: u16, nonce: &[u8], shown: usize) {
     let bytes = chacha20_block::block(secret(key), counter as u32, once(nonce));
-    print::hexadecimal(&bytes, shown);
+    print::hexadecimal(rt, &bytes, shown);
 }
 
 // A text that is encrypted in place.
-pub(crate) fn encrypted(key: &[u8], counter: u16, nonce: &[u8], text: &mut [u8]) {
+pub(crate) fn encrypted(rt: HostRuntime, key: &[u8], counter: u16, nonce: &[u8], text: &mut [u8]) {
     if text.len() < 65536 {
         chacha20::encrypt(secret(key), counter as u32, once(nonce), text);
-        print::hexadecimal(text, text.len());
+        print::hexadecimal(rt, text, text.len());
     }
 }
 
-pub(crate) fn tag(key: &[u8], message: &[u8]) {
+pub(crate) fn tag(rt: HostRuntime, key: &[u8], message: &[u8]) {
     let bytes = poly1305::poly1305(secret(key), message);
-    print::hexadecimal(&bytes, 16);
+    print::hexadecimal(rt, &bytes, 16);
 }
 
 // A text that is encrypted in place, and after it the tag over it and the additional data.
-pub(crate) fn sealed(key: &[u8], nonce: &[u8], aad: &[u8], text: &mut [u8]) {
+pub(crate) fn sealed(rt: HostRuntime, key: &[u8], nonce: &[u8], aad: &[u8], text: &mut [u8]) {
     if text.len() < 65536 {
         let k = secret(key);
         let n = once(nonce);
         aead::cipher(k, n, text);
-        print::hexadecimal(text, text.len());
+        print::hexadecimal(rt, text, text.len());
         let bytes = aead::tag(k, n, aad, text);
-        print::hexadecimal(&bytes, 16);
+        print::hexadecimal(rt, &bytes, 16);
     }
 }

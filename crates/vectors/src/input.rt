@@ -2,10 +2,12 @@
 ghost use Rattle.std.specs.Prelude.{◌≡◌, length};
 ghost use Rattle.io.specs.Counts.{IsPrefixLen};
 
+use std::io::Read;
+
 // Two bytes, the most significant first.
-pub(crate) fn number() -> u16 {
+pub(crate) fn number(rt: HostRuntime) -> u16 {
     let mut bytes = [0u8; 2];
-    io::read_full(0, &mut bytes);
+    let _ = rt.stdin().read_exact(&mut bytes);
     format::read_number(&bytes, 0)
 }
 
@@ -18,12 +20,12 @@ pub(crate) fn letters() -> [u8; 65537]
 
 // Puts a file at the start of a buffer of a's, and answers its length. Two numbers come before it: how many bytes are given, and how many
 // a's follow them.
-pub(crate) fn file(buffer: &mut [u8]) -> usize
+pub(crate) fn file(rt: HostRuntime, buffer: &mut [u8]) -> usize
     ensures { IsPrefixLen result buffer.new }
 {
-    let given = number() as usize;
-    let more = number() as usize;
+    let given = number(rt) as usize;
+    let more = number(rt) as usize;
     let start = io::count(given as isize, buffer);
-    io::read_full(0, &mut buffer[..start]);
+    let _ = rt.stdin().read_exact(&mut buffer[..start]);
     io::count((given + more) as isize, buffer)
 }

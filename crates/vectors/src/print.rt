@@ -1,28 +1,38 @@
 // What lines are made of.
 use crate::input;
 
+// Bytes as they stand.
+pub(crate) fn bytes(rt: HostRuntime, bytes: &[u8]) {
+    let _ = rt.stdout().write_all(bytes);
+}
+
+// A number in decimal.
+pub(crate) fn decimal(rt: HostRuntime, number: u64) {
+    let _ = rt.print(number);
+}
+
 // The case's name.
-pub(crate) fn name() {
+pub(crate) fn name(rt: HostRuntime) {
     let mut buffer = input::letters();
-    let length = input::file(&mut buffer);
-    io::write_all(1, &buffer[..length]);
-    io::write_all(1, b": ");
+    let length = input::file(rt, &mut buffer);
+    bytes(rt, &buffer[..length]);
+    bytes(rt, b": ");
 }
 
 // Whether an operation accepted what it was given; a refusal is printed, as document 01 prints one.
-pub(crate) fn accepted(refusal: u8) -> bool {
+pub(crate) fn accepted(rt: HostRuntime, refusal: u8) -> bool {
     if refusal == 0 {
         return true;
     }
-    io::write_all(1, b"REFUSED ");
-    io::print_decimal(1, refusal as u64);
+    bytes(rt, b"REFUSED ");
+    decimal(rt, refusal as u64);
     false
 }
 
 // A number, and the word after it.
-pub(crate) fn counted(number: u64, word: &[u8]) {
-    io::print_decimal(1, number);
-    io::write_all(1, word);
+pub(crate) fn counted(rt: HostRuntime, number: u64, word: &[u8]) {
+    decimal(rt, number);
+    bytes(rt, word);
 }
 
 fn wide(byte: u8) -> u64 {
@@ -30,11 +40,11 @@ fn wide(byte: u8) -> u64 {
 }
 
 // The first `count` bytes in hexadecimal.
-pub(crate) fn hexadecimal(bytes: &[u8], count: usize) {
+pub(crate) fn hexadecimal(rt: HostRuntime, bytes: &[u8], count: usize) {
     let mut i = 0;
     while i < bytes.len() {
         if i < count {
-            io::print_hex(1, wide(bytes[i]), 2);
+            let _ = print!(rt; "{:02x}", wide(bytes[i]));
         }
         i += 1;
     }

@@ -1,5 +1,7 @@
 // The verbs of a command line: which one a word is, and whether it takes so many arguments. A program has up to 16; its tables
 // have a row for each, and empty rows after them.
+#![tactic(auto)]
+
 ghost use Rattle.std.specs.Prelude.{[], map, ◌≡◌, ◌≤◌, ◌<◌, length, get_or, take};
 ghost use Rattle.format.specs.Names.{unpadded};
 ghost use Rattle.verbs.specs.Verbs.{is_verb, place_of, takes_so, trimmed_to};

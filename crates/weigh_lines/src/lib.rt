@@ -1,4 +1,6 @@
 // What `weigh` prints, as bytes in a buffer.
+#![tactic(auto)]
+
 ghost use Rattle.std.specs.Prelude.{◌+◌, ◌≤◌, length};
 ghost use Rattle.buffers.specs.Put.{Put};
 ghost use Rattle.weigh_lines.specs.Weighed.{least_line, weighed_text};

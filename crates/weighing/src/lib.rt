@@ -1,4 +1,6 @@
 // The weighing of an offered tree.
+#![tactic(auto)]
+
 ghost use Rattle.std.specs.Prelude.{◌≡◌, ◌≤◌};
 ghost use Rattle.order.specs.Table.{entry_at};
 ghost use Rattle.trees.specs.Weights.{total};

@@ -1,4 +1,6 @@
 // The operations on 32-bit words of SHA-256 (FIPS 180-4, sections 3.2 and 4.1.2).
+#![tactic(auto)]
+
 ghost use Rattle.std.specs.Prelude.{◌≡◌, ◌<◌};
 ghost use Rattle.words.specs.Words as spec;
 

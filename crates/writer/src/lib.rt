@@ -1,4 +1,6 @@
 // Envelopes written, from a policy's names, the order table and the plan's parents.
+#![tactic(auto)]
+
 ghost use Rattle.std.specs.Prelude.{◌+◌, ◌≤◌, ◌<◌, length};
 ghost use Rattle.buffers.specs.Put.{Put};
 ghost use Rattle.secrets.specs.Asks.{Hung};

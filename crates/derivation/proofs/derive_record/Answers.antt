@@ -1,0 +1,43 @@
+-- `derivation::derive_record` meets its contract: the key is made from the secret that the walk leads to, one application after its steps.
+use Prim.Native.Nat.{ℕ, ◌+◌}
+use mathlib.Core.List.{List}
+use mathlib.Core.Path.{◌≡◌, ap, ◌∙◌}
+use native.Mathlib.Omega.{arith}
+use lib.ListN.{get_or}
+use Rattle.hmac.specs.Secrets.{label_key}
+use Rattle.envelope_file.proofs.Starts.{room, name_there}
+use Rattle.envelope_file.specs.Derive.{walk_to, derived_at}
+use Rattle.envelope_file.specs.File.{name_in}
+use Rattle.envelope_file.specs.declared.Walk.{Walk}
+use Rattle.derivation.proofs.derive_record.Goals as goal
+
+-- the key and the count of applications, from the way to the record's secret
+derived_made : (file : List ℕ) (k : ℕ) (walk : Walk) (key : List ℕ) → walk ≡ walk_to file k → key ≡ label_key walk.secret (name_in file k)
+    → record { refusal = 0; key = key; applications = walk.steps + 1 } ≡ derived_at file k
+unfolding derived_at
+derived_made file k walk key w e =
+    ap (λ (x : List ℕ). record { refusal = 0; key = x; applications = walk.steps + 1 }) e
+    ∙ ap (λ (v : Walk). record { refusal = 0; key = label_key v.secret (name_in file k); applications = v.steps + 1 }) w
+
+pub overflow_add-at : goal.overflow_add-at
+overflow_add-at c =
+    let start = c in
+    let k = start.args.k in
+    omega (arith, room start.args.envelope.now start.args.starts.now (k + 1) start.requires.0 k (omega arith))
+
+pub read_name-requires : goal.read_name-requires
+read_name-requires c =
+    let start = c in
+    let k = start.args.k in
+    omega (arith, room start.args.envelope.now start.args.starts.now (k + 1) start.requires.0 k (omega arith))
+
+pub returns : goal.returns
+returns c =
+    let start = c in
+    let file = start.args.envelope.now in
+    let k = start.args.k in
+    let walk = c.walk_to-walk in
+    let begins = start.requires.0.begins k (omega arith) in
+    let name = name_there file k (get_or start.args.starts.now k 0) begins c.read_name.ensures in
+    derived_made file k walk.result c.label_key.result walk.ensures.0
+    (c.label_key.ensures ∙ ap (label_key walk.result.secret) name)

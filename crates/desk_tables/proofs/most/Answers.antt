@@ -1,0 +1,9 @@
+-- `desk_tables::most` meets its contract: the numbers are those of the verbs.
+use mathlib.Core.Path.{refl}
+use Rattle.verbs.specs.Tables.{rows_of, most_of}
+use Rattle.desk_tables.specs.Calls.{verbs}
+use Rattle.desk_tables.proofs.most.Goals as goal
+
+pub returns : goal.returns
+unfolding rows_of most_of verbs
+returns c = refl

@@ -1,0 +1,28 @@
+-- `label_lines::put_labels` meets its contract.
+use native.Mathlib.Omega.{arith}
+use Rattle.buffers.proofs.Writes.{put_length, put_next}
+use Rattle.decimals.proofs.Digits.{decimal_short}
+use Rattle.decimals.proofs.Worded.{worded_length}
+use Rattle.decimals.specs.Text.{bytes_of}
+use Rattle.label_lines.specs.Labels.{labels_text}
+use borrow.Author.Rules.{rules}
+use Rattle.label_lines.proofs.put_labels.Goals as goal
+
+pub returns : goal.returns
+unfolding bytes_of labels_text
+returns c =
+    let n = c in
+    put_next n.put_worded-start.ensures n.put_names.ensures
+
+pub put_worded-start-requires : goal.put_worded-start-requires
+unfolding bytes_of
+put_worded-start-requires c =
+    let x = c.args.account in
+    omega (arith, worded_length (bytes_of "ACCOUNT") x, decimal_short x)
+
+pub put_names-requires : goal.put_names-requires
+unfolding bytes_of
+put_names-requires c =
+    let w = c in
+    let x = w.args.account in
+    (search rules, omega (arith, w.put_worded-start.ensures.behind, put_length w.put_worded-start.ensures, worded_length (bytes_of "ACCOUNT") x, decimal_short x))

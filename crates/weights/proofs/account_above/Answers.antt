@@ -1,0 +1,15 @@
+-- `weights::account_above` meets its contract.
+use mathlib.Core.Path.{refl}
+use native.Mathlib.Omega.{arith}
+use Rattle.weights.specs.Tables.{accounts_above}
+use Rattle.weights.proofs.account_above.Goals as goal
+
+pub returns-then-rows-m : goal.returns-then-rows-m
+unfolding accounts_above
+returns-then-rows-m c =
+    let k = c.accounts-here.ensures in
+    (rw c.if-rows-m.true k.0, k.1)
+
+pub returns : goal.returns
+unfolding accounts_above
+returns c = (rw c.if-rows-m.false refl, omega arith)

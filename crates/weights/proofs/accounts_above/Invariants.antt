@@ -1,0 +1,16 @@
+-- `weights::accounts_above` meets its contract. Invariant: the first l entries are filled in, and they are small.
+use Prim.Native.Nat.{ℕ, ◌-◌, ◌≤◌, ◌<◌}
+use mathlib.Core.Path.{◌≡◌}
+use Rattle.lists.specs.Tables.{filled}
+use Rattle.order.specs.Table.{entry_at}
+use Rattle.weights.specs.Tables.{entries, accounts_above}
+use Rattle.weights.proofs.accounts_above.Given as goal
+
+abbrev pub invariant-loop-l : goal.invariant-loop-l
+invariant-loop-l s =
+    (s.l ≤ s.labels)
+    × (s.above ≡ filled 64 0 (accounts_above (entries s.counts) (entry_at s.rows) s.m) s.l)
+    × ((k : ℕ) → k < s.l → accounts_above (entries s.counts) (entry_at s.rows) s.m k ≤ 65_535)
+
+abbrev pub decreases-loop-l : goal.decreases-loop-l
+decreases-loop-l l = l.labels - l.l

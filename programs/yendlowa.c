@@ -1,2 +1,0 @@
-int yendlowa_program(void);
-int main(void) { return yendlowa_program(); }

@@ -4,7 +4,7 @@ use mathlib.Core.List.{List, ◌++◌, append_assoc, append-nil}
 use mathlib.Core.Path.{◌≡◌, refl, sym, ap, ap₂, ◌∙◌}
 use native.Mathlib.Omega.{arith}
 use lib.ListN.{length, take, drop, replicate, length-append, length-drop, length-replicate, take-append-drop}
-use lib.Seq.{length-take-le, take_all}
+use lib.Seq.{length-take-le}
 use Rattle.lists.specs.Buffer.{zero_filled}
 use Rattle.lists.proofs.Pasted.{zero_filled_length, copied}
 use Rattle.little_endian.specs.LittleEndian.{little_bytes}
@@ -98,18 +98,14 @@ module _ (s : List ℕ) (some : length s / 16 * 16 < length s) where
   abbrev at : ℕ
   at = length s / 16 * 16
 
-  -- the part of s that the code lends
-  abbrev rest : List ℕ
-  rest = take (length s - at) (drop at s)
-
-  rest_whole : rest ≡ drop at s
-  rest_whole = take_all (length s - at) (drop at s) (omega (arith, length-drop at s))
-
-  pub padded_copied : (r a : ℕ) {b d : ℕ} {last : List ℕ} → b ≡ absorbed r a s (length s / 16) → last ≡ rest ++ drop (length rest) (replicate 16 0)
-      → d ≡ absorbed r b last (length last / 16) → d ≡ absorbed r a (padded s) (length (padded s) / 16)
-  padded_copied r a {b} {d} {last} e f g =
-      let size : length rest ≤ 16 = omega (arith, ap length rest_whole, rest_length s at refl some) in
-      let filled : last ≡ zero_filled 16 (drop at s) = f ∙ copied 16 rest size ∙ ap (zero_filled 16) rest_whole in
+  pub padded_copied : (r a : ℕ) {b d : ℕ} {rest copy : List ℕ} → b ≡ absorbed r a s (length s / 16) → rest ≡ drop at s → copy ≡ rest
+      → d ≡ absorbed r b (copy ++ drop (length rest) (replicate 16 0)) (length (copy ++ drop (length rest) (replicate 16 0)) / 16)
+      → d ≡ absorbed r a (padded s) (length (padded s) / 16)
+  padded_copied r a {b} {d} {rest} {copy} e k f g =
+      let last = copy ++ drop (length rest) (replicate 16 0) in
+      let size : length rest ≤ 16 = omega (arith, ap length k, rest_length s at refl some) in
+      let filled : last ≡ zero_filled 16 (drop at s) =
+      ap (λ (t : List ℕ). t ++ drop (length rest) (replicate 16 0)) f ∙ copied 16 rest size ∙ ap (zero_filled 16) k in
       let one : length last / 16 ≡ 1 = omega (arith, ap length filled, last_length s at refl some) in
       g ∙ ap (absorbed r b last) one ∙ ap₂ (λ (x : ℕ) (t : List ℕ). absorbed r x t 1) e filled ∙ padded_rest s at refl some r a
 

@@ -23,12 +23,11 @@ fn absorb_padded(h: Accumulator, r: Multiplier, message: &[u8]) -> Accumulator
     ensures { Reduced result × (value result % prime ≡ absorbed (multiplier_value r) (value h % prime) (padded message.now) (length (padded message.now) / 16)) }
 {
     let whole = poly1305::absorb(h, r, message);
-    let at = message.len() / 16 * 16;
-    if at == message.len() {
+    let (_, rest) = message.as_chunks::<16>();
+    if rest.is_empty() {
         return whole;
     }
     let mut last = [0u8; 16];
-    let rest = &message[at..];
     last[..rest.len()].copy_from_slice(rest);
     poly1305::absorb(whole, r, &last)
 }
@@ -38,10 +37,8 @@ fn length_block(aad: usize, ciphertext: usize) -> [u8; 16]
     ensures { result ≡ little_bytes 8 aad ++ little_bytes 8 ciphertext }
 {
     let mut out = [0u8; 16];
-    little_endian::put_word(&mut out, 0, (aad % 0x1_0000_0000) as u32);
-    little_endian::put_word(&mut out, 4, (aad / 0x1_0000_0000) as u32);
-    little_endian::put_word(&mut out, 8, (ciphertext % 0x1_0000_0000) as u32);
-    little_endian::put_word(&mut out, 12, (ciphertext / 0x1_0000_0000) as u32);
+    out[..8].copy_from_slice(&(aad as u64).to_le_bytes());
+    out[8..].copy_from_slice(&(ciphertext as u64).to_le_bytes());
     out
 }
 

@@ -8,12 +8,9 @@ ghost use Rattle.outcomes.specs.Status.{Said, Printed};
 
 use outcomes::Ended;
 
-// Writes the front of a text to standard output, and answers whether it was taken.
-fn write(rt: HostRuntime, program: &[u8], text: &[u8], length: usize) -> bool {
-    if text.len() < length {
-        return false;
-    }
-    match rt.stdout().write_all(&text[..length]) {
+// Writes a text to standard output, and answers whether it was taken. Why it was not is told.
+fn write(rt: HostRuntime, program: &[u8], text: &[u8]) -> bool {
+    match rt.stdout().write_all(text) {
         Ok(()) => true,
         Err(error) => {
             messages::failed(rt, program, b"standard output", error);
@@ -26,8 +23,9 @@ fn write(rt: HostRuntime, program: &[u8], text: &[u8], length: usize) -> bool {
 pub fn print(rt: HostRuntime, program: &[u8], ended: Ended) -> Ended
     ensures { Printed ended result }
 {
-    let text = ended.text;
-    let taken = ended.ok && write(rt, program, &text, ended.length);
+    let mut text = [0u8; 8192];
+    let length = outcomes::put_text(ended, &mut text);
+    let taken = write(rt, program, &text[..length]);
     outcomes::after_printing(taken, ended)
 }
 
@@ -36,7 +34,7 @@ pub fn answer(rt: HostRuntime, program: &[u8], text: &[u8]) -> Ended
     requires { length text.now ≤ 8192 }
     ensures { Said 0 text.now result }
 {
-    print(rt, program, outcomes::ended_with(true, 0, text))
+    print(rt, program, outcomes::ended_with(0, text))
 }
 
 // Answers the program's name and its version. No program's name is longer than 32 bytes.
@@ -44,7 +42,7 @@ pub fn answer_version(rt: HostRuntime, program: &[u8]) -> Ended
     ensures { (version : List ℕ) × Said 0 (version_line program.now version) result }
 {
     if 32 < program.len() {
-        return outcomes::failed();
+        return Ended::Failed;
     }
     let mut line = [0u8; 64];
     let mut end = buffers::put_bytes(&mut line, 0, program);

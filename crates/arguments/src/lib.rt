@@ -12,20 +12,14 @@ use std::io::{Error, ErrorKind};
 // Whether there is an argument i; the program's name is argument 0.
 fn is_there(rt: HostRuntime, i: usize) -> bool {
     let mut first = [0u8; 1];
-    match rt.arg(i, &mut first) {
-        Err(FillError::NotPresent) => false,
-        _ => true,
-    }
+    !matches!(rt.arg(i, &mut first), Err(FillError::NotPresent))
 }
 
 // The number of arguments, with the program's name.
 pub fn count(rt: HostRuntime) -> usize {
-    for i in 0..usize::MAX {
-        if !is_there(rt, i) {
-            return i;
-        }
-    }
-    usize::MAX
+    (0..usize::MAX)
+        .find(|i| !is_there(rt, *i))
+        .unwrap_or(usize::MAX)
 }
 
 // Puts argument i at the start of the buffer, as much of it as the buffer holds, and answers how many bytes that is.
@@ -34,19 +28,17 @@ pub fn argument(rt: HostRuntime, i: usize, buffer: &mut [u8]) -> usize
 {
     match rt.arg(i, buffer) {
         Ok(length) => length,
-        Err(FillError::TooLong) => {
-            return buffer.len();
-        }
+        Err(FillError::TooLong) => buffer.len(),
         Err(FillError::NotPresent) => 0,
     }
 }
 
 // A path as the system's calls take it here. One that is not UTF-8 names no file.
 pub fn path(bytes: &[u8]) -> Result<&str, Error> {
-    match std::str::from_utf8(bytes) {
-        Ok(text) => Ok(text),
-        Err(_) => { Err(Error::new(ErrorKind::InvalidFilename, "a name that is not UTF-8")) }
-    }
+    std::str::from_utf8(bytes).map_err(|_| Error::new(
+        ErrorKind::InvalidFilename,
+        "a name that is not UTF-8",
+    ))
 }
 
 // Whether argument i is this word.
@@ -67,33 +59,19 @@ pub fn is_word(typed: &[u8], word: &[u8]) -> bool
 pub fn asks_help(typed: &[u8]) -> bool
     ensures { (result ≡ true) ↔ AsksHelp typed.now }
 {
-    if check::same(typed, b"help") {
-        return true;
-    }
-    if check::same(typed, b"--help") {
-        return true;
-    }
-    check::same(typed, b"-h")
+    matches!(typed, b"help" | b"--help" | b"-h")
 }
 
 // Whether argument i looks like an option: a dash, then at least one byte, the first of which is no digit.
 pub fn is_option(rt: HostRuntime, i: usize) -> bool {
     let mut typed = io::buffer();
     let length = argument(rt, i, &mut typed);
-    1 < length && typed[0] == b'-' && (typed[1] < b'0' || b'9' < typed[1])
+    matches!(&typed[..length], [b'-', second, ..] if !second.is_ascii_digit())
 }
 
-// The first argument from i on that looks like an option; the number of arguments where there is none.
-pub fn find_option(rt: HostRuntime, i: usize) -> usize {
-    let count = count(rt);
-    let mut next = i;
-    while next < count {
-        if is_option(rt, next) {
-            return next;
-        }
-        next += 1;
-    }
-    count
+// The first argument from i on that looks like an option.
+pub fn find_option(rt: HostRuntime, i: usize) -> Option<usize> {
+    (i..count(rt)).find(|next| is_option(rt, *next))
 }
 
 // Puts the label name that argument i says at the start of the buffer, padded as the operations take it.

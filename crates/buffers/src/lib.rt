@@ -2,7 +2,7 @@
 #![tactic(auto)]
 
 ghost use Rattle.std.specs.Prelude.{◌≡◌, ◌+◌, ◌≤◌, length};
-ghost use Rattle.buffers.specs.Handed.{refused_written, handed, handed_into};
+ghost use Rattle.buffers.specs.Handed.{wrote, refused_written, handed, handed_into};
 ghost use Rattle.buffers.specs.Put.{Put};
 
 // How many bytes were written; 0 with a refusal. `zeros` is always 0: a caller in C gets no byte that no contract speaks of.
@@ -25,6 +25,17 @@ pub fn refuse(number: u8) -> Written
     }
 }
 
+// The answer with so many bytes written.
+pub fn wrote(size: usize) -> Written
+    ensures { result ≡ wrote size }
+{
+    Written {
+        refusal: 0,
+        zeros: [0u8; 7],
+        length: size,
+    }
+}
+
 // Writes bytes from `at` on, and answers the place after them.
 pub fn put_bytes(out: &mut [u8], at: usize, bytes: &[u8]) -> usize
     requires { at + length bytes.now ≤ length out.old }
@@ -43,9 +54,5 @@ pub fn hand_out(bytes: &[u8], out: &mut [u8]) -> Written
         return refuse(16);
     }
     put_bytes(out, 0, bytes);
-    Written {
-        refusal: 0,
-        zeros: [0u8; 7],
-        length: bytes.len(),
-    }
+    wrote(bytes.len())
 }

@@ -1,8 +1,9 @@
 -- Laws of a text with any key stream whose blocks have 64 bytes: its length, its bytes, twice, and one turn of the loop over the blocks.
 use mathlib.Core.Path.{◌≡◌, refl, sym, ap, ◌∙◌}
 use mathlib.Core.List.{List, ◌++◌, append_assoc, append-nil}
-use Prim.Native.Nat.{ℕ, zero, suc, ◌+◌, ◌-◌, ◌*◌, ◌/◌, ◌%◌, ◌≤◌, ◌<◌, min}
+use Prim.Native.Nat.{ℕ, zero, suc, ◌+◌, ◌-◌, ◌*◌, ◌/◌, ◌%◌, ◌<◌, min}
 use native.Mathlib.Decide.{dec_lt}
+use native.Mathlib.Numerals.{add-one}
 use native.Mathlib.Omega.{arith}
 use lib.Bits.{bit_xor}
 use lib.ListN.{length, get_or, take, drop, length-append, length-take, length-drop, get_or-append, drop_of_length-le}
@@ -82,62 +83,46 @@ streamed_twice k wide text =
     streamed_at k wide once i m
     ∙ rw (streamed_at k wide text i (omega arith)) (xor_twice (get_or text i 0) (get_or (k (i / 64)) (i % 64) 0)))
 
--- the text `now` after the loop has come to `at`: the blocks before it are done, the rest is as it was
-pub record Done (k : ℕ → List ℕ) (text now : List ℕ) (at : ℕ) : Type 0 where
-  pub within : at ≤ length text
-  pub whole : at < length text → at % 64 ≡ 0
-  pub made : now ≡ concat_below (xored_block k text) (block_count at) ++ drop at text
-
--- a block that is cut off where the list ends
-short : (l : List ℕ) (n m : ℕ) → m ≡ min n (length l) → take m l ≡ take n l
+-- a list that is cut off where it ends
+short : (l : List ℕ) (n m : ℕ) → m ≡ min n (length l) → (take m l ≡ take n l) × (drop m l ≡ drop n l)
 short l n m e = go (dec_lt n (length l))
   where
-    go : Dec (n < length l) → take m l ≡ take n l
-    go (yes h) = let d : m ≡ n = omega arith in rw d
-    go (no h) = take_all m l (omega arith) ∙ sym (take_all n l (omega arith))
+    go : Dec (n < length l) → (take m l ≡ take n l) × (drop m l ≡ drop n l)
+    go (yes h) = let d : m ≡ n = omega arith in rw d (refl, refl)
+    go (no h) = (
+      take_all m l (omega arith) ∙ sym (take_all n l (omega arith)),
+      drop_of_length-le l {i = m} (omega arith) ∙ sym (drop_of_length-le l {i = n} (omega arith)),
+    )
+
+-- the text after n turns of the loop: the first n blocks are done, the rest is as it was
+abbrev pub done : (ℕ → List ℕ) → List ℕ → ℕ → List ℕ
+done k text n = concat_below (xored_block k text) n ++ drop (64 * n) text
 
 module _ (k : ℕ → List ℕ) (wide : (j : ℕ) → length (k j) ≡ 64) (text : List ℕ) where
-  pub done_none : Done k text text 0
+  pub done_none : text ≡ done k text 0
   unfolding concat_below
-  done_none = record { within = omega arith; whole = λ h. refl; made = refl }
+  done_none = refl
 
-  pub done_length : (now : List ℕ) (at : ℕ) → Done k text now at → length now ≡ length text
-  done_length now at d = rw d.made (go (dec_lt at (length text)))
-    where
-      p : List ℕ
-      p = concat_below (xored_block k text) (block_count at)
-
-      go : Dec (at < length text) → length (p ++ drop at text) ≡ length text
-      go (yes h) = omega (arith, length-append p (drop at text), length-drop at text, blocks_length k wide text (block_count at), d.whole h)
-      go (no h) = omega (arith, length-append p (drop at text), length-drop at text, blocks_length k wide text (block_count at), d.within)
-
-  -- the block from `at` to `end` is done too
-  pub done_turn : (now stream part next : List ℕ) (at end : ℕ) → at < length text → Done k text now at → end ≡ min (at + 64) (length text)
-      → stream ≡ k (at / 64) → part ≡ xored (take (end - at) (drop at now)) stream
-      → next ≡ take at now ++ (part ++ drop (end - at) (drop at now)) → Done k text next end
+  -- block number j, from `at` to `end`, is done too
+  pub done_turn : (now stream part : List ℕ) (j at end : ℕ) → at ≡ 64 * j → at < length text → end ≡ min (at + 64) (length text)
+      → now ≡ done k text j → stream ≡ k j → part ≡ xored (take (end - at) (drop at now)) stream
+      → take at now ++ (part ++ drop (end - at) (drop at now)) ≡ done k text (j + 1)
   unfolding concat_below text_block
-  done_turn now stream part next at end h d e s f g =
-      let w : at % 64 ≡ 0 = d.whole h in
-      let n : ℕ = at / 64 in
-      let a : at ≡ 64 * n = omega arith in
-      let b : block_count at ≡ n = omega arith in
-      let c : block_count end ≡ suc n = omega arith in
-      let p : List ℕ = concat_below (xored_block k text) n in
-      let l : length p ≡ at = omega (arith, blocks_length k wide text n) in
-      let m : now ≡ p ++ drop at text = d.made ∙ rw b in
-      let front : take at now ≡ p = rw m (take_at p (drop at text) at l) in
-      let back : drop at now ≡ drop at text = rw m (drop_at p (drop at text) at l) in
-      let block : take (end - at) (drop at text) ≡ take 64 (drop (64 * n) text) =
-      short (drop at text) 64 (end - at) (omega (arith, length-drop at text)) ∙ ap (λ (i : ℕ). take 64 (drop i text)) a in
+  done_turn now stream part j at end a h e m s f =
+      let p : List ℕ = concat_below (xored_block k text) j in
+      let l : length p ≡ at = omega (arith, blocks_length k wide text j) in
+      let whole : now ≡ p ++ drop at text = rw a m in
+      let front : take at now ≡ p = rw whole (take_at p (drop at text) at l) in
+      let back : drop at now ≡ drop at text = rw whole (drop_at p (drop at text) at l) in
+      let block : take (end - at) (drop at text) ≡ take 64 (drop (64 * j) text) =
+      (short (drop at text) 64 (end - at) (omega (arith, length-drop at text))).0 ∙ ap (λ (i : ℕ). take 64 (drop i text)) a in
       let stop : at + (end - at) ≡ end = omega arith in
-      record {
-        within = omega arith;
-        whole = λ (i : end < length text). omega arith;
-        made = g ∙ rw (f, s, front, back, block, drop-drop (end - at) at text, stop, c) (sym (append_assoc p (xored_block k text n) (drop end text)));
-      }
+      let next : drop end text ≡ drop (64 * suc j) text = (short text (64 * suc j) end (omega arith)).1 in
+      rw (f, s, front, back, block, drop-drop (end - at) at text, stop, next, add-one)
+      (sym (append_assoc p (xored_block k text j) (drop (64 * suc j) text)))
 
-  pub done_all : (now : List ℕ) (at : ℕ) → length text ≤ at → Done k text now at → now ≡ streamed k text
+  pub done_all : (now : List ℕ) (n : ℕ) → n ≡ block_count (length text) → now ≡ done k text n → now ≡ streamed k text
   unfolding streamed
-  done_all now at h d =
-      let e : at ≡ length text = omega (arith, d.within) in
-      d.made ∙ rw (drop_of_length-le text {i = at} h, e) (append-nil (concat_below (xored_block k text) (block_count (length text))))
+  done_all now n e m =
+      m ∙ rw (e, drop_of_length-le text {i = 64 * block_count (length text)} (omega arith))
+      (append-nil (concat_below (xored_block k text) (block_count (length text))))

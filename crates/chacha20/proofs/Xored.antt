@@ -1,12 +1,12 @@
 -- Exclusive or of bytes: its length, one byte more, and that twice is none.
 use mathlib.Core.Path.{◌≡◌, refl, sym, ap, ◌∙◌}
-use mathlib.Core.List.{List, [], ◌∷◌, ◌++◌, append_assoc, append-nil}
+use mathlib.Core.List.{List, [], ◌∷◌, ◌++◌, append_assoc}
 use Prim.Native.Nat.{ℕ, zero, suc, ◌+◌, ◌/◌, ◌%◌, ◌≤◌, ◌<◌}
 use native.Mathlib.Numerals.{add-one}
 use native.Mathlib.Omega.{arith}
 use lib.Bits.{bit_xor, differ, xor_step, xor_zero_l, xor_self}
 use lib.ListN.{length, get_or, set, take, drop, length-take}
-use lib.Seq.{take-length, drop-length, drop-cons, set_at, get_or_at}
+use lib.Seq.{drop-cons, set_at, get_or_at}
 use Rattle.chacha20.specs.Encryption.{xored}
 
 -- exclusive or of digits, twice
@@ -58,10 +58,6 @@ xored_more [] k i h l = absurd (omega arith)
 xored_more (a ∷ s) [] i h l = absurd (omega arith)
 xored_more (a ∷ s) (b ∷ k) zero h l = refl
 xored_more (a ∷ s) (b ∷ k) (suc i) h l = ap (λ (t : List ℕ). bit_xor a b ∷ t) (xored_more s k i (omega arith) (omega arith))
-
--- a part with all of its bytes done
-pub xored_all : (part k now : List ℕ) (i : ℕ) → i ≡ length part → now ≡ xored (take i part) k ++ drop i part → now ≡ xored part k
-xored_all part k now i h e = e ∙ rw (h, take-length part, drop-length part) (append-nil (xored part k))
 
 -- the first i bytes of a part are done
 abbrev pub xored_to : List ℕ → List ℕ → ℕ → List ℕ

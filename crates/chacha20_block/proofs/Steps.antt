@@ -9,11 +9,11 @@ use lib.Bits.{bit_xor}
 use lib.ListN.{length, get_or, set, take, drop, length-append, length-take, length-drop, take-append-drop}
 use Rattle.lists.specs.Buffer.{pasted, zero_filled}
 use Rattle.lists.specs.Tables.{listed, filled, concat_below}
-use Rattle.lists.proofs.Pasted.{pasted_one, pasted_adjacent, pasted_next, zero_filled_length, zero_filled_all}
+use Rattle.lists.proofs.Pasted.{pasted_one, pasted_adjacent, pasted_next, zero_filled_all}
 use Rattle.words.specs.Words.{add}
 use Rattle.little_endian.specs.LittleEndian.{little_endian}
 use Rattle.chacha20_block.specs.declared.Quarter.{Quarter}
-use Rattle.chacha20_block.specs.ChaCha20.{rotl, quarter_round, column_round, diagonal_round, rounds, word, words, started, added, serialized, block_of}
+use Rattle.chacha20_block.specs.ChaCha20.{rotl, quarter_round, word, words, started, added, serialized}
 use Rattle.chacha20_block.proofs.Lengths.{words_length, concat_even, word_bytes, word_bytes_length}
 
 -- the quarter round by the eight sums and rotations of its four lines, in order
@@ -22,16 +22,6 @@ pub quarter_lines : (q : Quarter) (a d c b e h g f : ℕ) → a ≡ add q.a q.b 
     → record { a = e; b = f; c = g; d = h } ≡ quarter_round q
 unfolding quarter_round
 quarter_lines q a d c b e h g f e₁ e₂ e₃ e₄ e₅ e₆ e₇ e₈ = rw (e₈, e₇, e₆, e₅, e₄, e₃, e₂, e₁)
-
--- both rounds once more
-pub rounds_turn : (s₀ s t u : List ℕ) (n : ℕ) → s ≡ rounds s₀ n → t ≡ column_round s → u ≡ diagonal_round t → u ≡ rounds s₀ (n + 1)
-unfolding rounds
-rounds_turn s₀ s t u n e column diagonal = rw (add-one, diagonal, column, e)
-
--- rounds, sums and bytes make a block
-pub block_made : (state s t out : List ℕ) → s ≡ rounds state 10 → t ≡ added s state → out ≡ serialized t → out ≡ block_of state
-unfolding block_of
-block_made state s t out e f g = rw (g, f, e)
 
 -- the sum of the words number i
 abbrev pub sum_at : List ℕ → List ℕ → ℕ → ℕ
@@ -47,9 +37,6 @@ written s i = zero_filled 64 (concat_below (word_bytes s) i)
 
 words_below : (s : List ℕ) (i : ℕ) → length (concat_below (word_bytes s) i) ≡ 4 * i
 words_below s i = concat_even (word_bytes s) 4 (word_bytes_length s) i
-
-pub written_length : (s : List ℕ) (i : ℕ) → i ≤ 16 → length (written s i) ≡ 64
-written_length s i h = zero_filled_length 64 (concat_below (word_bytes s) i) (omega (arith, words_below s i))
 
 pub written_turn : (s out next : List ℕ) (i : ℕ) → i < 16 → out ≡ written s i → next ≡ pasted out (4 * i) (word_bytes s i) → next ≡ written s (i + 1)
 unfolding concat_below
@@ -72,6 +59,10 @@ pub pasted_none : (d : List ℕ) (at : ℕ) → d ≡ pasted d at []
 unfolding pasted
 pasted_none d at = rw (add-zero, append-nil) (sym (take-append-drop at d))
 
+pub load_none : (d bytes : List ℕ) (at : ℕ) → d ≡ pasted d at (words bytes 0)
+unfolding words listed
+load_none d bytes at = pasted_none d at
+
 -- one word more is written
 pub load_turn : (s₀ s bytes : List ℕ) (at i x : ℕ) → at + i < length s₀ → s ≡ pasted s₀ at (words bytes i)
     → x ≡ little_endian (take 4 (drop (4 * i) bytes)) → set s (at + i) x ≡ pasted s₀ at (words bytes (i + 1))
@@ -89,10 +80,6 @@ abbrev pub blank : ℕ → List ℕ
 blank counter = 0x61707865 ∷ 0x3320646e ∷ 0x79622d32 ∷ 0x6b206574 ∷ 0 ∷ 0 ∷ 0 ∷ 0 ∷ 0 ∷ 0 ∷ 0 ∷ 0 ∷ counter ∷ 0 ∷ 0 ∷ 0 ∷ []
 
 module _ (key : List ℕ) (counter : ℕ) (s : List ℕ) (size : length key ≡ 32) (keyed : s ≡ pasted (blank counter) 4 (words key (length key / 4))) where
-  pub start_length : length s ≡ 16
-  unfolding pasted words listed
-  start_length = let e : length key / 4 ≡ 8 = omega arith in rw (keyed, e)
-
   pub start_written : (nonce t : List ℕ) → length nonce ≡ 12 → t ≡ pasted s 13 (words nonce (length nonce / 4)) → t ≡ started key counter nonce
   unfolding pasted words listed started
   start_written nonce t short written =

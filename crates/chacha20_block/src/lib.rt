@@ -2,7 +2,7 @@
 #![tactic(auto)]
 
 ghost use Rattle.std.specs.Prelude.{◌≡◌, ◌+◌, ◌/◌, ◌<◌, ◌≤◌, length};
-ghost use Rattle.chacha20_block.specs.ChaCha20.{rotl, quarter_round, quarter_round_at, column_round, diagonal_round, rounds, started, words, added, serialized, block_of, block_for};
+ghost use Rattle.chacha20_block.specs.ChaCha20.{quarter_round, quarter_round_at, column_round, diagonal_round, rounds, started, words, added, serialized, block_of, block_for};
 ghost use Rattle.lists.specs.Buffer.{pasted};
 
 // Four words of the state.
@@ -14,26 +14,19 @@ pub struct Quarter {
     pub d: u32,
 }
 
-// x turned left by n places.
-fn turned(n: u32, x: u32) -> u32
-    requires { (0 < n) × (n < 32) }
-    ensures { result ≡ rotl n x }
-{
-    x << n | x >> (32 - n)
-}
-
 // The quarter round.
+#[tactic(auto, using(crate::proofs::Steps::quarter_lines), unfolding(crate::specs::ChaCha20::rotl))]
 fn quarter_round(q: Quarter) -> Quarter
     ensures { result ≡ quarter_round q }
 {
-    let a = words::add(q.a, q.b);
-    let d = turned(16, q.d ^ a);
-    let c = words::add(q.c, d);
-    let b = turned(12, q.b ^ c);
-    let e = words::add(a, b);
-    let h = turned(8, d ^ e);
-    let g = words::add(c, h);
-    let f = turned(7, b ^ g);
+    let a = q.a.wrapping_add(q.b);
+    let d = (q.d ^ a).rotate_left(16);
+    let c = q.c.wrapping_add(d);
+    let b = (q.b ^ c).rotate_left(12);
+    let e = a.wrapping_add(b);
+    let h = (d ^ e).rotate_left(8);
+    let g = c.wrapping_add(h);
+    let f = (b ^ g).rotate_left(7);
     Quarter {
         a: e,
         b: f,
@@ -43,6 +36,7 @@ fn quarter_round(q: Quarter) -> Quarter
 }
 
 // The quarter round on the words at four places of the state.
+#[tactic(auto, unfolding(crate::specs::ChaCha20::quarter_round_at))]
 fn quarter_round_at(s: &mut [u32; 16], x: usize, y: usize, z: usize, w: usize)
     requires { (length s.old ≡ 16) × (x < 16) × (y < 16) × (z < 16) × (w < 16) }
     ensures { (s.new ≡ quarter_round_at x y z w s.old) × (length s.new ≡ 16) }
@@ -59,6 +53,8 @@ fn quarter_round_at(s: &mut [u32; 16], x: usize, y: usize, z: usize, w: usize)
     s[w] = q.d;
 }
 
+// These two stay four lines each, as the RFC lists them: over a table of places they would read less plainly.
+#[tactic(auto, unfolding(crate::specs::ChaCha20::column_round))]
 fn column_round(s: &mut [u32; 16])
     requires { length s.old ≡ 16 }
     ensures { (s.new ≡ column_round s.old) × (length s.new ≡ 16) }
@@ -69,6 +65,7 @@ fn column_round(s: &mut [u32; 16])
     quarter_round_at(s, 3, 7, 11, 15);
 }
 
+#[tactic(auto, unfolding(crate::specs::ChaCha20::diagonal_round))]
 fn diagonal_round(s: &mut [u32; 16])
     requires { length s.old ≡ 16 }
     ensures { (s.new ≡ diagonal_round s.old) × (length s.new ≡ 16) }
@@ -80,15 +77,14 @@ fn diagonal_round(s: &mut [u32; 16])
 }
 
 // The 20 rounds.
+#[tactic(auto, unfolding(crate::specs::ChaCha20::rounds))]
 fn all_rounds(s: &mut [u32; 16])
     requires { length s.old ≡ 16 }
     ensures { (s.new ≡ rounds s.old 10) × (length s.new ≡ 16) }
 {
-    let mut n: usize = 0;
-    while n < 10 {
+    for _n in 0..10_usize {
         column_round(s);
         diagonal_round(s);
-        n += 1;
     }
 }
 
@@ -97,10 +93,8 @@ fn sums(s: [u32; 16], t: [u32; 16]) -> [u32; 16]
     ensures { result ≡ added s t }
 {
     let mut out = [0u32; 16];
-    let mut i = 0;
-    while i < 16 {
-        out[i] = words::add(s[i], t[i]);
-        i += 1;
+    for (i, sum) in out.iter_mut().enumerate() {
+        *sum = s[i].wrapping_add(t[i]);
     }
     out
 }
@@ -110,15 +104,14 @@ fn bytes_of(s: [u32; 16]) -> [u8; 64]
     ensures { result ≡ serialized s }
 {
     let mut out = [0u8; 64];
-    let mut i = 0;
-    while i < 16 {
-        little_endian::put_word(&mut out, 4 * i, s[i]);
-        i += 1;
+    for (i, word) in s.iter().enumerate() {
+        little_endian::put_word(&mut out, 4 * i, *word);
     }
     out
 }
 
 // The 64 bytes of a state.
+#[tactic(auto, unfolding(crate::specs::ChaCha20::block_of))]
 fn block_of(state: [u32; 16]) -> [u8; 64]
     ensures { result ≡ block_of state }
 {
@@ -128,15 +121,13 @@ fn block_of(state: [u32; 16]) -> [u8; 64]
 }
 
 // Writes the words of some bytes into a state, from a place on.
+#[tactic(auto, using(crate::proofs::Steps::load_turn, crate::proofs::Steps::load_none))]
 fn load(s: &mut [u32; 16], at: usize, bytes: &[u8])
     requires { (length s.old ≡ 16) × (at + length bytes.now / 4 ≤ 16) }
     ensures { s.new ≡ pasted s.old at (words bytes.now (length bytes.now / 4)) }
 {
-    let n = bytes.len() / 4;
-    let mut i = 0;
-    while i < n {
+    for i in 0..bytes.len() / 4 {
         s[at + i] = little_endian::word_at(bytes, 4 * i);
-        i += 1;
     }
 }
 
@@ -168,6 +159,7 @@ fn start(key: [u8; 32], counter: u32, nonce: [u8; 12]) -> [u32; 16]
 }
 
 // The block function.
+#[tactic(auto, unfolding(crate::specs::ChaCha20::block_for))]
 pub fn block(key: [u8; 32], counter: u32, nonce: [u8; 12]) -> [u8; 64]
     ensures { result ≡ block_for key counter nonce }
 {

@@ -1,5 +1,6 @@
 -- 01's starred sentences: every row of the table holds. Plans, trees and refusals are worked out; envelopes follow from demand 2, so that the
 -- root secret is any and F stays shut.
+use Rattle.std.specs.Prelude.{Some}
 use Prim.Native.Nat.{ℕ, ◌+◌, ◌≤◌, ◌<◌}
 use mathlib.Core.Bool.{Bool, true, false, cond, false≢true}
 use mathlib.Core.List.{List}
@@ -15,7 +16,6 @@ use Rattle.envelopes.specs.Envelope.{steps_from, steps_to}
 use Rattle.format.specs.Bytes.{same_bytes}
 use Rattle.format.specs.Names.{class_of, padding, formed, some_no_space, well_formed}
 use Rattle.format.specs.Search.{first_from}
-use Rattle.format.specs.declared.Found.TheVariants.{At}
 use Rattle.issuer_answers.proofs.Answers.{issue_refuses, issue_14}
 use Rattle.issuer_answers.proofs.By.{envelope_at}
 use Rattle.issuer_answers.specs.Issue.{asked_envelope, issued_of, envelope_after}
@@ -45,7 +45,7 @@ use Rattle.claims.proofs.Demand2.{of_secrets, of_account}
 record WorkedE : Type 0 where
   accepted : AcceptedPolicy E
   four : label_count E ≡ 4
-  asked : label_asked E (label_count E) CONV32 ≡ At 2
+  asked : label_asked E (label_count E) CONV32 ≡ Some 2
   conv32 : name_of E 2 ≡ CONV32
   accounts : count_of E 2 ≡ 5
 

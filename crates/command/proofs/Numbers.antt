@@ -1,40 +1,40 @@
 -- Numbers read from digits, and the loop that reads them.
+use Rattle.std.specs.Prelude.{None, Some}
 use Prim.Native.Nat.{ℕ, ◌+◌, ◌-◌, ◌*◌, ◌≤◌, ◌<◌, min}
 use mathlib.Core.Bool.{Bool, true, false, cond, ◌&&◌}
 use mathlib.Core.List.{List, [], ◌∷◌}
 use mathlib.Core.Path.{◌≡◌, refl, ap, sym, ◌∙◌}
 use native.Mathlib.Numerals.{add-one}
 use native.Mathlib.Omega.{arith}
-use borrow.Author.Tests.{lt-ltb, le-ltb, le-leb, lt-leb}
+use borrow.Author.Tests.{lt-ltb, le-ltb}
 use lib.Dec.{ltb}
 use lib.ListN.{length, drop, get_or, drop_of_length-le}
 use lib.Seq.{drop-cons}
 use Rattle.format.specs.Digits.{value_behind, value_of}
 use Rattle.command.specs.Typed.{is_digit, all_digits, number_of}
-use Rattle.command.specs.declared.Number.TheVariants.{Is, Not}
 
 -- `007` is 7, `99999` is 65,536, and `5x` is no number
-pub number_007 : number_of (48 ∷ 48 ∷ 55 ∷ []) ≡ Is 7
+pub number_007 : number_of (48 ∷ 48 ∷ 55 ∷ []) ≡ Some 7
 unfolding number_of all_digits value_behind
 number_007 = refl
 
-pub number_99999 : number_of (57 ∷ 57 ∷ 57 ∷ 57 ∷ 57 ∷ []) ≡ Is 65536
+pub number_99999 : number_of (57 ∷ 57 ∷ 57 ∷ 57 ∷ 57 ∷ []) ≡ Some 65536
 unfolding number_of all_digits value_behind
 number_99999 = refl
 
-pub number_5x : number_of (53 ∷ 120 ∷ []) ≡ Not
+pub number_5x : number_of (53 ∷ 120 ∷ []) ≡ None
 unfolding number_of all_digits value_behind
 number_5x = refl
 
 -- digits say a number of up to 65,536, or stand for 65,536; anything else is none
 module _ (s : List ℕ) where
-  pub number_said : 0 < length s → all_digits s ≡ true → value_of s ≤ 65536 → number_of s ≡ Is (value_of s)
+  pub number_said : 0 < length s → all_digits s ≡ true → value_of s ≤ 65536 → number_of s ≡ Some (value_of s)
   unfolding number_of
   number_said some digits small =
       let e : min (value_of s) 65536 ≡ value_of s = omega arith in
       rw (lt-ltb 0 (length s) some, digits, e)
 
-  pub number_large : 0 < length s → all_digits s ≡ true → 65536 ≤ value_of s → number_of s ≡ Is 65536
+  pub number_large : 0 < length s → all_digits s ≡ true → 65536 ≤ value_of s → number_of s ≡ Some 65536
   unfolding number_of
   number_large some digits large =
       let e : min (value_of s) 65536 ≡ 65536 = omega arith in
@@ -61,11 +61,11 @@ pub reading_none : (s : List ℕ) → Reading s 0 0
 reading_none s = record { within = omega arith; small = omega arith; digits = refl; value = refl }
 
 -- a byte that is no digit
-no_number : (s : List ℕ) → all_digits s ≡ false → Not ≡ number_of s
+no_number : (s : List ℕ) → all_digits s ≡ false → None ≡ number_of s
 unfolding number_of
 no_number s e = go (ltb 0 (length s))
   where
-    go : (b : Bool) → Not ≡ cond (b && all_digits s) (Is (min (value_of s) 65536)) Not
+    go : (b : Bool) → None ≡ cond (b && all_digits s) (Some (min (value_of s) 65536)) None
     go true = rw e
     go false = refl
 
@@ -80,30 +80,27 @@ module _ (s : List ℕ) (x i : ℕ) (reading : Reading s x i) (inside : i < leng
   unfolding all_digits
   digits_rest t e = reading.digits ∙ rw (rest, e)
 
-  pub reading_more : 48 ≤ byte → byte ≤ 57 → (y : ℕ) → y ≡ min (10 * x + (byte - 48)) 65536 → Reading s y (i + 1)
+  pub reading_more : is_digit byte ≡ true → (y : ℕ) → y ≡ min (10 * x + (byte - 48)) 65536 → Reading s y (i + 1)
   unfolding value_behind
-  reading_more low high y e = record {
+  reading_more digit y e = record {
     within = omega arith;
     small = omega arith;
-    digits = digits_rest true (rw (le-leb 48 byte low, le-leb byte 57 high));
+    digits = digits_rest true digit;
     value = value;
   }
     where
       value : min (value_of s) 65536 ≡ min (value_behind y (drop (i + 1) s)) 65536
       value = reading.value ∙ rw (rest, e) (sym (value_capped (drop (i + 1) s) (10 * x + (byte - 48))))
 
-  pub reading_below : byte < 48 → Not ≡ number_of s
-  reading_below h = no_number s (digits_rest false (rw (lt-leb 48 byte h)))
-
-  pub reading_above : 57 < byte → Not ≡ number_of s
-  reading_above h = no_number s (digits_rest false (rw (le-leb 48 byte (omega arith), lt-leb byte 57 h)))
+  pub reading_other : is_digit byte ≡ false → None ≡ number_of s
+  reading_other e = no_number s (digits_rest false e)
 
 module _ (s : List ℕ) where
-  pub reading_empty : length s ≡ 0 → Not ≡ number_of s
+  pub reading_empty : length s ≡ 0 → None ≡ number_of s
   unfolding number_of
   reading_empty h = rw (le-ltb 0 (length s) (omega arith))
 
-  pub reading_all : (x i : ℕ) → Reading s x i → length s ≤ i → (length s ≡ 0 → ⊥) → Is x ≡ number_of s
+  pub reading_all : (x i : ℕ) → Reading s x i → length s ≤ i → (length s ≡ 0 → ⊥) → Some x ≡ number_of s
   unfolding number_of all_digits value_behind
   reading_all x i r h some =
       let end : drop i s ≡ [] = drop_of_length-le s h in

@@ -1,8 +1,6 @@
 -- What a user types: names, and the numbers of accounts.
-use Rattle.std.specs.Prelude.{ℕ, ◌-◌, min, Bool, true, cond, ◌&&◌, List, [], ◌∷◌, ◌++◌, leb, ltb, length, replicate}
+use Rattle.std.specs.Prelude.{ℕ, ◌-◌, min, Bool, true, cond, ◌&&◌, List, [], ◌∷◌, ◌++◌, leb, ltb, length, replicate, None, Option, Some}
 use Rattle.format.specs.Digits.{value_of}
-use Rattle.command.specs.declared.Number.TheVariants.{Is, Not}
-use Rattle.command.specs.declared.Number.{Number}
 
 -- names are padded for the user: a name of up to 8 bytes with spaces after it; a longer one stays as it is
 unfoldable pub padded_name : List ℕ → List ℕ
@@ -22,5 +20,5 @@ all_digits [] = true
 all_digits (b ∷ bs) = is_digit b && all_digits bs
 
 -- at least one digit and nothing else is a number: what it says, but 65,536 at the most
-unfoldable pub number_of : List ℕ → Number
-number_of s = cond (ltb 0 (length s) && all_digits s) (Is (min (value_of s) 65536)) Not
+unfoldable pub number_of : List ℕ → Option ℕ
+number_of s = cond (ltb 0 (length s) && all_digits s) (Some (min (value_of s) 65536)) None

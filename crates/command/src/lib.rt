@@ -7,13 +7,6 @@ ghost use Rattle.command.specs.Typed.{padded_name, temporary_name, number_of};
 
 use buffers::Written;
 
-// A number that was typed, or something else.
-#[derive(Clone, Copy)]
-pub enum Number {
-    Is(u32),
-    Not,
-}
-
 // Hands out the name that was typed, with spaces after it up to 8 bytes. A longer one is handed out as it is, so that the
 // operation that it goes to refuses it.
 pub fn pad_name(typed: &[u8], name: &mut [u8]) -> Written
@@ -31,44 +24,27 @@ pub fn pad_name(typed: &[u8], name: &mut [u8]) -> Written
 pub fn temporary_name(path: &[u8], name: &mut [u8]) -> Written
     ensures { (result ≡ handed (temporary_name path.now) (length name.old)) × (name.new ≡ handed_into (temporary_name path.now) name.old) }
 {
-    if name.len() < path.len() || name.len() - path.len() < 7 {
+    if name.len().saturating_sub(path.len()) < 7 {
         return buffers::refuse(16);
     }
     let next = buffers::put_bytes(name, 0, path);
     let end = buffers::put_bytes(name, next, b".XXXXXX");
-    Written {
-        refusal: 0,
-        zeros: [0u8; 7],
-        length: end,
-    }
-}
-
-// The number, or 65,536 if that is less.
-fn capped(x: u32) -> u32
-    ensures { result ≡ min x 65536 }
-{
-    if x < 65536 { x } else { 65536 }
+    buffers::wrote(end)
 }
 
 // The number that digits say, or 65,536 if that is less: no label has so many accounts.
-pub fn read_account(typed: &[u8]) -> Number
+pub fn read_account(typed: &[u8]) -> Option<u32>
     ensures { result ≡ number_of typed.now }
 {
-    if typed.len() == 0 {
-        return Number::Not;
+    if typed.is_empty() {
+        return None;
     }
     let mut x = 0;
-    let mut i = 0;
-    while i < typed.len() {
-        let byte = typed[i];
-        i += 1;
-        if byte < b'0' {
-            return Number::Not;
+    for byte in typed {
+        if !byte.is_ascii_digit() {
+            return None;
         }
-        if b'9' < byte {
-            return Number::Not;
-        }
-        x = capped(10 * x + (byte - b'0') as u32);
+        x = (10 * x + u32::from(*byte - b'0')).min(65536);
     }
-    Number::Is(x)
+    Some(x)
 }

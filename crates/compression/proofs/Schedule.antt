@@ -1,11 +1,11 @@
 -- The message schedule: the lengths, and one turn of each of the two loops that fill it.
 use mathlib.Core.Path.{◌≡◌, refl, sym, ap, ◌∙◌}
-use mathlib.Core.List.{List, ◌++◌, append-nil}
+use mathlib.Core.List.{List, ◌++◌}
 use Prim.Native.Nat.{ℕ, zero, suc, ◌+◌, ◌-◌, ◌≤◌, ◌<◌}
 use native.Mathlib.Nat.{add-zero, add-suc}
 use native.Mathlib.Numerals.{add-one}
 use native.Mathlib.Omega.{arith}
-use lib.ListN.{length, get_or, set, take, drop, drop_of_length-le, length-append, length-drop, get_or-append}
+use lib.ListN.{length, get_or, set, take, drop, get_or-append}
 use lib.Seq.{length-take-le, take_at}
 use Rattle.compression.specs.Compression.{word, words, next, extended, schedule}
 use Rattle.compression.proofs.Lists.{filled, length_snoc}
@@ -47,14 +47,7 @@ module _ (w₀ : List ℕ) (full : length w₀ ≡ 64) where
       let u : 16 + (t - 16) ≡ t = omega arith in
       rw (e, s, u, next_filled p (drop t w₀) t low l) (filled p w₀ t (next p t) l (omega arith))
 
-  -- when t has come to 64, the schedule is whole
-  pub extend_done : (w : List ℕ) (t : ℕ) → t ≡ 64 → w ≡ extended (take 16 w₀) (t - 16) ++ drop t w₀ → w ≡ extended (take 16 w₀) 48
-  extend_done w t h e = e ∙ rw (h, drop_of_length-le w₀ {i = 64} (omega arith), append-nil)
-
--- what `load` leaves is as long as the schedule, and extends to it
-pub loaded_length : (block d : List ℕ) → length d ≡ 64 → length (words block 16 ++ drop 16 d) ≡ 64
-loaded_length block d e = rw (length-append, words_length, length-drop, e)
-
+-- what `load` leaves extends to the schedule
 pub loaded_schedule : (block w d : List ℕ) → w ≡ words block 16 ++ d → extended (take 16 w) 48 ≡ schedule block
 unfolding schedule
 loaded_schedule block w d e = rw (e, take_at (words block 16) d 16 (words_length block 16))

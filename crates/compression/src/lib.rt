@@ -24,21 +24,17 @@ fn word_at(block: &[u8], t: usize) -> u32
     ensures { result ≡ word block.now t }
 {
     let at = 4 * t;
-    words::wide(block[at]) * 0x100_0000
-        + words::wide(block[at + 1]) * 0x1_0000
-        + words::wide(block[at + 2]) * 0x100
-        + words::wide(block[at + 3])
+    u32::from_be_bytes([block[at], block[at + 1], block[at + 2], block[at + 3]])
 }
 
 // The first 16 words of the schedule.
+#[tactic(auto, using(crate::proofs::Schedule::load_turn), unfolding(crate::specs::Compression::words))]
 fn load(block: &[u8], w: &mut [u32; 64])
     requires { (length block.now ≡ 64) × (length w.old ≡ 64) }
     ensures { w.new ≡ words block.now 16 ++ drop 16 w.old }
 {
-    let mut t = 0;
-    while t < 16 {
+    for t in 0..16 {
         w[t] = word_at(block, t);
-        t += 1;
     }
 }
 
@@ -47,11 +43,11 @@ fn extend(w: &mut [u32; 64])
     requires { length w.old ≡ 64 }
     ensures { w.new ≡ extended (take 16 w.old) 48 }
 {
-    let mut t = 16;
-    while t < 64 {
-        let first = words::add(words::small_sigma1(w[t - 2]), w[t - 7]);
-        w[t] = words::add(words::add(first, words::small_sigma0(w[t - 15])), w[t - 16]);
-        t += 1;
+    for t in 16..64 {
+        w[t] = words::small_sigma1(w[t - 2])
+            .wrapping_add(w[t - 7])
+            .wrapping_add(words::small_sigma0(w[t - 15]))
+            .wrapping_add(w[t - 16]);
     }
 }
 
@@ -59,15 +55,16 @@ fn extend(w: &mut [u32; 64])
 fn started(h: &[u32; 8]) -> Working
     ensures { result ≡ start h.now }
 {
+    let [a, b, c, d, e, f, g, h] = *h;
     Working {
-        a: h[0],
-        b: h[1],
-        c: h[2],
-        d: h[3],
-        e: h[4],
-        f: h[5],
-        g: h[6],
-        h: h[7],
+        a,
+        b,
+        c,
+        d,
+        e,
+        f,
+        g,
+        h,
     }
 }
 
@@ -75,48 +72,51 @@ fn started(h: &[u32; 8]) -> Working
 fn temp1(e: u32, f: u32, g: u32, h: u32, k: u32, w: u32) -> u32
     ensures { result ≡ temporary1 e f g h k w }
 {
-    let sum = words::add(words::add(h, words::big_sigma1(e)), words::ch(e, f, g));
-    words::add(words::add(sum, k), w)
+    h.wrapping_add(words::big_sigma1(e))
+        .wrapping_add(words::ch(e, f, g))
+        .wrapping_add(k)
+        .wrapping_add(w)
 }
 
 // T_2.
 fn temp2(a: u32, b: u32, c: u32) -> u32
     ensures { result ≡ temporary2 a b c }
 {
-    words::add(words::big_sigma0(a), words::maj(a, b, c))
+    words::big_sigma0(a).wrapping_add(words::maj(a, b, c))
 }
 
 // One round.
+#[tactic(auto, unfolding(crate::specs::Compression::round_of))]
 fn round(v: Working, k: u32, w: u32) -> Working
     ensures { result ≡ round_of v k w }
 {
     let t1 = temp1(v.e, v.f, v.g, v.h, k, w);
     let t2 = temp2(v.a, v.b, v.c);
     Working {
-        a: words::add(t1, t2),
+        a: t1.wrapping_add(t2),
         b: v.a,
         c: v.b,
         d: v.c,
-        e: words::add(v.d, t1),
+        e: v.d.wrapping_add(t1),
         f: v.e,
         g: v.f,
         h: v.g,
     }
 }
 
-// The 64 rounds, four at a time.
+// The 64 rounds, four at a time: the working variables move in every round, and one round a turn takes a sixth more time.
+#[tactic(auto, using(crate::proofs::Rounds::four_rounds), unfolding(crate::specs::Compression::rounds))]
 fn all_rounds(from: Working, w: &[u32; 64]) -> Working
     ensures { result ≡ rounds w.now from 64 }
 {
     let k = sha256_constants::round_words();
     let mut v = from;
-    let mut t = 0;
-    while t < 64 {
-        let v1 = round(v, k[t], w[t]);
-        let v2 = round(v1, k[t + 1], w[t + 1]);
-        let v3 = round(v2, k[t + 2], w[t + 2]);
-        v = round(v3, k[t + 3], w[t + 3]);
-        t += 4;
+    for i in 0..16 {
+        let t = 4 * i;
+        v = round(v, k[t], w[t]);
+        v = round(v, k[t + 1], w[t + 1]);
+        v = round(v, k[t + 2], w[t + 2]);
+        v = round(v, k[t + 3], w[t + 3]);
     }
     v
 }
@@ -125,15 +125,16 @@ fn all_rounds(from: Working, w: &[u32; 64]) -> Working
 fn add_to(h: &mut [u32; 8], v: Working)
     ensures { h.new ≡ added h.old v }
 {
-    let a = words::add(h[0], v.a);
-    let b = words::add(h[1], v.b);
-    let c = words::add(h[2], v.c);
-    let d = words::add(h[3], v.d);
-    let e = words::add(h[4], v.e);
-    let f = words::add(h[5], v.f);
-    let g = words::add(h[6], v.g);
-    let last = words::add(h[7], v.h);
-    *h = [a, b, c, d, e, f, g, last];
+    *h = [
+        h[0].wrapping_add(v.a),
+        h[1].wrapping_add(v.b),
+        h[2].wrapping_add(v.c),
+        h[3].wrapping_add(v.d),
+        h[4].wrapping_add(v.e),
+        h[5].wrapping_add(v.f),
+        h[6].wrapping_add(v.g),
+        h[7].wrapping_add(v.h),
+    ];
 }
 
 // The hash value after one more block.

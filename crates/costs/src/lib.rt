@@ -33,10 +33,8 @@ fn ceiling(labels: usize, rows: &[[bool; 64]; 64], l: usize) -> u8
     ensures { result ≡ ceiling labels (entry_at rows.now) l }
 {
     let mut below = 1u8;
-    let mut m = l + 1;
-    while m < labels {
+    for m in l + 1..labels {
         below = sets::counted(below, rows[m][l]);
-        m += 1;
     }
     below
 }
@@ -65,11 +63,12 @@ fn label_figures(
     if counts[l] < 65535 {
         let cost = cost(labels, counts, rows, l, today);
         let ceiling = ceiling(labels, rows, l);
-        return Figures { cost, ceiling };
-    }
-    Figures {
-        cost: 0,
-        ceiling: 0,
+        Figures { cost, ceiling }
+    } else {
+        Figures {
+            cost: 0,
+            ceiling: 0,
+        }
     }
 }
 
@@ -87,12 +86,10 @@ pub fn growth_labels(
     let today = plan.total;
     let mut costs = [0u8; 64];
     let mut ceilings = [0u8; 64];
-    let mut l = 0;
-    while l < labels {
+    for l in 0..labels {
         let label = label_figures(labels, counts, rows, l, today);
         costs[l] = label.cost;
         ceilings[l] = label.ceiling;
-        l += 1;
     }
     Growth {
         refusal,

@@ -11,10 +11,11 @@ ghost use Rattle.decimals.specs.Worded.{space, worded, refused_text};
 use buffers::Written;
 
 // The number, or 65,535 if that is less.
+#[tactic(auto, unfolding(crate::specs::Decimal::capped))]
 pub fn capped(x: usize) -> u32
     ensures { (result ≡ cappedAt x) × (result < 65536) }
 {
-    if x < 65535 { x as u32 } else { 65535 }
+    x.min(65535) as u32
 }
 
 // Writes a number in decimal.
@@ -25,12 +26,13 @@ pub fn put_decimal(out: &mut [u8], at: usize, x: u32) -> usize
     let mut digits = [0u8; 10];
     let mut i = 9;
     let mut rest = x;
+    // A `while`: the number that is left says when to stop, and a `for` over the places would need a `break`.
     while 10 <= rest {
-        digits[i] = 48 + (rest % 10) as u8;
+        digits[i] = b'0' + (rest % 10) as u8;
         rest /= 10;
         i -= 1;
     }
-    digits[i] = 48 + rest as u8;
+    digits[i] = b'0' + rest as u8;
     buffers::put_bytes(out, at, &digits[i..])
 }
 
@@ -58,6 +60,6 @@ pub fn refused_text(number: u8, out: &mut [u8]) -> Written
     ensures { (result ≡ handed (refused_text number) (length out.old)) × (out.new ≡ handed_into (refused_text number) out.old) }
 {
     let mut text = [0u8; 32];
-    let length = put_worded(&mut text, 0, b"REFUSED", number as u32);
+    let length = put_worded(&mut text, 0, b"REFUSED", u32::from(number));
     buffers::hand_out(&text[..length], out)
 }

@@ -3,24 +3,22 @@
 
 ghost use Rattle.std.specs.Prelude.{◌≡◌};
 ghost use Rattle.envelope_file.specs.Derive.{refused_derived, record_asked, derived_of};
-ghost use Rattle.envelope_file.specs.Reads.{Located};
 ghost use Rattle.envelope_file.specs.Whole.{contents_of};
 
 use derivation::derive_record;
 use envelope::read_envelope;
 use envelope_file::{Contents, Derived};
 use envelope_names::find_record;
-use format::Found;
+use envelope_records::Records;
 
 // The record that carries the name asked for; none if that does not have 8 bytes.
-fn asked_record(envelope: &[u8], records: usize, starts: &[usize; 64], name: &[u8]) -> Found
-    requires { Located envelope.now starts.now records }
-    ensures { result ≡ record_asked envelope.now records name.now }
+fn asked_record(read: &Records, name: &[u8]) -> Option<usize>
+    ensures { result ≡ record_asked read.now.envelope.now read.now.count name.now }
 {
     if name.len() != 8 {
-        return Found::Nothing;
+        return None;
     }
-    find_record(envelope, records, starts, names::read_name(name, 0))
+    find_record(read, names::read_name(name, 0))
 }
 
 // The answer with a refusal.
@@ -39,11 +37,10 @@ pub fn derive_read(envelope: &[u8], read: Contents, name: &[u8]) -> Derived
     requires { (read ≡ contents_of envelope.now) × (read.refusal ≡ 0) }
     ensures { result ≡ derived_of envelope.now name.now }
 {
-    let starts = read.starts;
-    let places = read.places;
-    match asked_record(envelope, read.records, &starts, name) {
-        Found::At(k) => derive_record(envelope, &starts, &places, k),
-        Found::Nothing => refuse(20),
+    let records = Records::all(envelope, read);
+    match asked_record(&records, name) {
+        Some(k) => derive_record(&records, k),
+        None => refuse(20),
     }
 }
 

@@ -8,7 +8,7 @@ use Rattle.envelope_file.specs.Labels.{envelope_labels}
 use Rattle.label_lines.specs.Labels.{labels_text}
 use Rattle.lines.specs.Lines.{hex_line}
 use Rattle.open_call.specs.Opened.{OpenEnds}
-use Rattle.outcomes.specs.Status.{Said, Ends}
+use Rattle.outcomes.specs.Status.{is_done, Said, Ends}
 use Rattle.outcomes.specs.declared.Ended.{Ended}
 use Rattle.verbs.specs.Tables.{words_of}
 use Rattle.verbs.specs.Verbs.{place_of}
@@ -26,11 +26,11 @@ pub data Performed (verb : ℕ) (e : Ended) : Type 0 where
   derived : verb ≡ 0 → DeriveEnds e → Performed verb e
   listed : verb ≡ 1 → LabelsEnds e → Performed verb e
   opened : verb ≡ 2 → OpenEnds e → Performed verb e
-  undone : e.ok ≡ false → Performed verb e
+  undone : is_done e ≡ false → Performed verb e
 
 -- How a call ended: as the verb that some word says, with the help or the version, or as one that failed.
 pub data Ran (e : Ended) : Type 0 where
   performed : (word : List ℕ) → Performed (place_of (words_of verbs) word) e → Ran e
   helped : (text : List ℕ) → take 6 text ≡ bytes_of "usage:" → Said 0 text e → Ran e
   versioned : (version : List ℕ) → Said 0 (version_line (bytes_of "yendlowa-desk") version) e → Ran e
-  failed : e.ok ≡ false → Ran e
+  failed : is_done e ≡ false → Ran e

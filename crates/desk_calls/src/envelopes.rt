@@ -15,12 +15,12 @@ fn tell_refused(rt: HostRuntime, program: &[u8], envelope: &[u8], number: u8) {
 }
 
 // Prints how a call over an envelope ended, and tells why it is refused.
-fn report(rt: HostRuntime, program: &[u8], envelope: &[u8], ended: Ended) -> Ended
+fn report(rt: HostRuntime, program: &[u8], envelope: Option<&[u8]>, ended: Ended) -> Ended
     ensures { Printed ended result }
 {
     let printed = answers::print(rt, program, ended);
-    if printed.ok && printed.refusal != 0 {
-        tell_refused(rt, program, envelope, printed.refusal);
+    if let (Ended::Refused(number), Some(envelope)) = (printed, envelope) {
+        tell_refused(rt, program, envelope, number);
     }
     printed
 }
@@ -30,22 +30,21 @@ pub(crate) fn derive(rt: HostRuntime, program: &[u8]) -> Ended
     ensures { DeriveEnds result }
 {
     // A longer file has the answer of its first 4,096 bytes (`derived_front`, `labels_front`, crate envelope_file).
-    let mut envelope = io::buffer();
-    let read = files::read_argument(rt, program, 2, &mut envelope);
+    let mut bytes = io::buffer();
+    let read = files::read_argument(rt, program, 2, &mut bytes);
+    let envelope = read.map(|length| &bytes[..length]);
     let mut name = io::buffer();
-    let name_length = arguments::name_argument(rt, 3, &mut name);
-    let length = read.length;
-    let ended = desk_verbs::derive(read.ok, &envelope[..length], &name[..name_length]);
-    report(rt, program, &envelope[..length], ended)
+    let length = arguments::name_argument(rt, 3, &mut name);
+    let ended = desk_verbs::derive(envelope, &name[..length]);
+    report(rt, program, envelope, ended)
 }
 
 // `labels ENVELOPE`
 pub(crate) fn labels(rt: HostRuntime, program: &[u8]) -> Ended
     ensures { LabelsEnds result }
 {
-    let mut envelope = io::buffer();
-    let read = files::read_argument(rt, program, 2, &mut envelope);
-    let length = read.length;
-    let ended = desk_verbs::labels(read.ok, &envelope[..length]);
-    report(rt, program, &envelope[..length], ended)
+    let mut bytes = io::buffer();
+    let read = files::read_argument(rt, program, 2, &mut bytes);
+    let envelope = read.map(|length| &bytes[..length]);
+    report(rt, program, envelope, desk_verbs::labels(envelope))
 }

@@ -6,6 +6,7 @@ mod usage;
 
 ghost use Rattle.std.specs.Prelude.{false, ◌≡◌};
 ghost use Rattle.decimals.specs.Text.{bytes_of};
+ghost use Rattle.outcomes.specs.Status.{is_done};
 ghost use Rattle.verbs.specs.Tables.{takes_call, words_of};
 ghost use Rattle.verbs.specs.Verbs.{place_of};
 ghost use Rattle.desk_tables.specs.Calls.{verbs};
@@ -21,24 +22,24 @@ fn perform(rt: HostRuntime, program: &[u8], verb: usize) -> Ended
         0 => envelopes::derive(rt, program),
         1 => envelopes::labels(rt, program),
         2 => open_call::open(rt, program),
-        _ => outcomes::failed(),
+        _ => Ended::Failed,
     }
 }
 
 // A call whose first argument is this word. With an option, which no verb has, or a wrong number of arguments, it fails before anything is read.
 fn call(rt: HostRuntime, program: &[u8], word: &[u8], count: usize) -> Ended
-    ensures ok_value { takes_call verbs word.now count ≡ false → result.ok ≡ false }
+    ensures ok_value { takes_call verbs word.now count ≡ false → is_done result ≡ false }
     ensures performed { Performed (place_of (words_of verbs) word.now) result }
 {
     let verb = verbs::find(desk_tables::words(), word);
     if usage::tell_option(rt, program, verb, 2) {
-        return outcomes::failed();
+        return Ended::Failed;
     }
     if verbs::takes(desk_tables::least(), desk_tables::most(), verb, count) {
         return perform(rt, program, verb);
     }
     usage::tell_wrong(rt, program, verb, word);
-    outcomes::failed()
+    Ended::Failed
 }
 
 // A call whose first argument is this word: for help, for the version or with a verb.

@@ -6,6 +6,7 @@ ghost use Rattle.envelope_file.specs.Whole.{head_refusal, refused, nothing_read,
 
 use envelope_file::{Contents, Kind};
 use envelope_record::read_record;
+use envelope_records::Records;
 use format::EN;
 
 // An envelope that is refused.
@@ -25,32 +26,24 @@ fn read_records(envelope: &[u8]) -> Contents
     requires { 12 ≤ length envelope.now }
     ensures { (settled result ≡ scan_from 65 envelope.now nothing_read) × (result.records ≡ count_from 65 envelope.now 0) }
 {
-    let mut starts = [0usize; 64];
-    let mut places = [0u8; 64];
-    let mut records = 0;
-    let mut at = 12;
+    let mut read = Records::none(envelope);
+    // A `while let` would be no plainer: the loop ends at the end of the file, and at a refusal with its number.
     let refusal = loop {
-        let kind = read_record(envelope, records, &starts, at);
-        match kind {
+        match read_record(&read) {
             Kind::Held => {
-                starts[records] = at;
-                places[records] = records as u8;
-                records += 1;
-                at += 42;
+                let own = read.count as u8;
+                read.push(42, own);
             }
-            Kind::Under(place) => {
-                starts[records] = at;
-                places[records] = place;
-                records += 1;
-                at += 11;
-            }
+            Kind::Under(place) => read.push(11, place),
             Kind::End => break 0,
             Kind::Refused(number) => break number,
         }
     };
+    let starts = read.starts;
+    let places = read.places;
     Contents {
         refusal,
-        records,
+        records: read.count,
         starts,
         places,
     }

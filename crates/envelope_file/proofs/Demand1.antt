@@ -1,12 +1,12 @@
 -- Demand 1 for envelopes: for every byte string exactly one of "read" and "refused under a number from the list" holds, and each number is
 -- given when 01's row says so and only then. The words are those of specs/Rows.antt.
+use Rattle.std.specs.Prelude.{None}
 use Prim.Native.Nat.{ℕ, ◌≤◌, ◌<◌}
 use mathlib.Core.List.{List, ◌∷◌, Memᴰ}
 use mathlib.Core.Logic.{◌↔◌, ◌⊎◌, inl, inr}
 use mathlib.Core.Path.{◌≡◌, refl, sym, ap, ◌∙◌}
 use native.Mathlib.Decide.{ℕ_discrete}
 use native.Mathlib.Omega.{arith}
-use Rattle.format.specs.declared.Found.TheVariants.{Nothing}
 use Rattle.envelope_file.proofs.Answered.{none_kept, scan_answered, answered, answered_only}
 use Rattle.envelope_file.proofs.Asked.{asked_none, asked_refused, asked_read, no_envelope, not_there, there, Asking, asking}
 use Rattle.envelope_file.proofs.Verdict.{row_number, number_of, number_listed, refusal_row}
@@ -133,7 +133,7 @@ module _ (file name : List ℕ) where
       go (there ok f) e = absurd (omega arith)
 
       back : NotIn file (records_of file) name → (derived_of file name).refusal ≡ 20
-      back n = ap (λ (d : Derived). d.refusal) (asked_read file name ok Nothing ((asked_none file (records_of file) name).1 n))
+      back n = ap (λ (d : Derived). d.refusal) (asked_read file name ok None ((asked_none file (records_of file) name).1 n))
 
   -- the refusal is 0, one of the envelope's or 20
   pub derived_numbers : Memᴰ (derived_of file name).refusal (0 ∷ 20 ∷ envelope_numbers)

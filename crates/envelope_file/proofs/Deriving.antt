@@ -1,15 +1,15 @@
 -- What `derive` knows of an envelope that it has read.
-use Prim.Native.Nat.{ℕ, ◌+◌, ◌<◌}
+use Rattle.std.specs.Prelude.{Some}
+use Prim.Native.Nat.{ℕ, ◌<◌}
 use mathlib.Core.List.{List}
-use mathlib.Core.Path.{◌≡◌, sym, ap, subst, ◌∙◌}
+use mathlib.Core.Path.{◌≡◌, refl, sym, ap, subst, ◌∙◌}
 use native.Mathlib.Omega.{arith}
-use Rattle.format.specs.declared.Found.TheVariants.{At, Nothing}
-use Rattle.format.specs.declared.Found.{Found}
+use lib.ListN.{length}
 use Rattle.envelope_file.proofs.Asked.{asked_at, asked_refused, asked_read}
-use Rattle.envelope_file.proofs.Lawful.{located, placed, falling}
+use Rattle.envelope_file.proofs.Lawful.{located, placed, falling, whole_length}
 use Rattle.envelope_file.proofs.Meaning.{name_at}
-use Rattle.envelope_file.proofs.Starts.{located_fewer, placed_fewer, falling_fewer}
-use Rattle.envelope_file.specs.Derive.{refused_derived, derived_at, on_found, record_asked, derived_of}
+use Rattle.envelope_file.specs.Derive.{refused_derived, on_found, record_asked, derived_of}
+use Rattle.envelope_file.specs.File.{start_of}
 use Rattle.envelope_file.specs.Reads.{Located, Placed, Falling}
 use Rattle.envelope_file.specs.Whole.{contents_of, records_of, AcceptedEnvelope}
 use Rattle.envelope_file.specs.declared.Contents.{Contents}
@@ -29,32 +29,21 @@ module _ (file : List ℕ) (read : Contents) (same : read ≡ contents_of file) 
   pub read_located : Located file read.starts read.records
   read_located = subst (λ (c : Contents). Located file c.starts c.records) (sym same) (located file accepted_read)
 
-  read_placed : Placed file read.places read.records
+  pub read_placed : Placed file read.places read.records
   read_placed = subst (λ (c : Contents). Placed file c.places c.records) (sym same) (placed file accepted_read)
 
-  module _ (name : List ℕ) (found : Found) (search : found ≡ record_asked file read.records name) where
-    asked : record_asked file (records_of file) name ≡ found
-    asked = sym (search ∙ ap (λ (c : Contents). record_asked file c.records name) same)
+  pub read_falling : Falling file read.records
+  read_falling = subst (λ (c : Contents). Falling file c.records) (sym same) (falling file accepted_read)
 
-    answer : derived_of file name ≡ on_found file found
-    answer = asked_read file name accepted_read found asked
+  pub read_whole : length file ≡ start_of file read.records
+  read_whole = whole_length file accepted_read ∙ ap (λ (c : Contents). start_of file c.records) (sym same)
 
-    pub none_answer : found ≡ Nothing → derived_of file name ≡ refused_derived 20
-    none_answer e = answer ∙ ap (on_found file) e
+  -- what the search among its records leads to is what `derive` answers
+  pub read_derived : (name : List ℕ) → on_found file (record_asked file read.records name) ≡ derived_of file name
+  read_derived name =
+      ap (λ (c : Contents). on_found file (record_asked file c.records name)) same
+      ∙ sym (asked_read file name accepted_read (record_asked file (records_of file) name) refl)
 
-    -- a record that was found
-    module _ (k : ℕ) (at : found ≡ At k) where
-      below : k < records_of file
-      below = (name_at file name (records_of file) k (asked_at file (records_of file) name k (asked ∙ at))).below
-
-      pub found_located : Located file read.starts (k + 1)
-      found_located = located_fewer (omega (arith, below, ap (λ (c : Contents). c.records) same)) read_located
-
-      pub found_placed : Placed file read.places (k + 1)
-      found_placed = placed_fewer (omega (arith, below, ap (λ (c : Contents). c.records) same)) read_placed
-
-      pub found_falling : Falling file (k + 1)
-      found_falling = falling_fewer (omega (arith, below)) (falling file accepted_read)
-
-      pub found_answer : derived_of file name ≡ derived_at file k
-      found_answer = answer ∙ ap (on_found file) at
+-- a record that was asked for is among those read
+pub asked_below : (file : List ℕ) (records : ℕ) (name : List ℕ) (k : ℕ) → record_asked file records name ≡ Some k → k < records
+asked_below file records name k e = (name_at file name records k (asked_at file records name k e)).below

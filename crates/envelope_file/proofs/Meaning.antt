@@ -1,4 +1,5 @@
 -- One record: what `envelope_kind` answers is what the rows of the table say in words.
+use Rattle.std.specs.Prelude.{None, Option, Some}
 use Prim.Native.Nat.{ℕ, ◌≤◌, ◌<◌}
 use mathlib.Core.Bool.{Bool, true, false, cond, not}
 use mathlib.Core.List.{List}
@@ -15,8 +16,6 @@ use Rattle.format.specs.Bytes.{same_bytes}
 use Rattle.format.specs.Form.{NameForm}
 use Rattle.format.specs.Marks.{KS, KD}
 use Rattle.format.specs.Names.{well_formed}
-use Rattle.format.specs.declared.Found.TheVariants.{At, Nothing}
-use Rattle.format.specs.declared.Found.{Found}
 use Rattle.envelope_file.specs.File.{head_name, is_held, name_in, place_in, carries, record_named}
 use Rattle.envelope_file.specs.Record.{carried_refusal, name_refusal, held_kind, under_kind, marked_kind, envelope_kind}
 use Rattle.envelope_file.specs.Rows.{bytes_left, mark_of, WholeHeld, WholeUnder, WholeRecord, NoMark, single_byte, other_mark, CutShort, short_held, short_under, Named, NoHolder, none_there, not_held, other_name, RefusedAt, row_2, row_3, row_5, row_6, row_7, row_18, row_19, RecordAt, held, under}
@@ -37,19 +36,19 @@ under_not_held = refl
 
 -- what a search for a name among the first n records says
 module _ (file name : List ℕ) (n : ℕ) where
-  pub name_at : (k : ℕ) → record_named file n name ≡ At k → NamedAt (name_in file) name n k
+  pub name_at : (k : ℕ) → record_named file n name ≡ Some k → NamedAt (name_in file) name n k
   unfolding record_named carries
   name_at = named_at (carries file name) (name_in file) name (λ i. refl) n
 
-  pub name_none : record_named file n name ≡ Nothing → (i : ℕ) → i < n → name_in file i ≢ name
+  pub name_none : record_named file n name ≡ None → (i : ℕ) → i < n → name_in file i ≢ name
   unfolding record_named carries
   name_none = named_none (carries file name) (name_in file) name (λ i. refl) n
 
-  name_found_lem : (i : ℕ) → i < n → name_in file i ≡ name → (k : ℕ) × (record_named file n name ≡ At k)
+  name_found_lem : (i : ℕ) → i < n → name_in file i ≡ name → (k : ℕ) × (record_named file n name ≡ Some k)
   unfolding record_named carries
   name_found_lem = named_found (carries file name) (name_in file) name (λ i. refl) n
 
-  pub name_new : ((i : ℕ) → i < n → name_in file i ≢ name) → record_named file n name ≡ Nothing
+  pub name_new : ((i : ℕ) → i < n → name_in file i ≢ name) → record_named file n name ≡ None
   unfolding record_named carries
   name_new = named_new (carries file name) (name_in file) name (λ i. refl) n
 
@@ -60,14 +59,14 @@ module _ (file : List ℕ) (k : ℕ) where
   unfolding name_refusal
   many_names h = rw (le-leb 64 k h)
 
-  name_tests : k < 64 → (t : Bool) → well_formed (name_in file k) ≡ t → (f : Found) → record_named file k (name_in file k) ≡ f
+  name_tests : k < 64 → (t : Bool) → well_formed (name_in file k) ≡ t → (f : Option ℕ) → record_named file k (name_in file k) ≡ f
       → name_refusal file k ≡ cond (not t) 6 (carried_refusal f)
   unfolding name_refusal
-  name_tests fits t et f ef = rw (lt-leb 64 k fits, et) (ap (λ (g : Found). cond (not t) 6 (carried_refusal g)) ef)
+  name_tests fits t et f ef = rw (lt-leb 64 k fits, et) (ap (λ (g : Option ℕ). cond (not t) 6 (carried_refusal g)) ef)
 
   name_passes : Named file k → name_refusal file k ≡ 0
   name_passes n =
-      name_tests n.fits true ((well_formed_iff (name_in file k)).1 n.formed) Nothing (name_new file (name_in file k) k n.new)
+      name_tests n.fits true ((well_formed_iff (name_in file k)).1 n.formed) None (name_new file (name_in file k) k n.new)
 
   -- the tests of mark and length
   marked : 2 ≤ bytes_left file k → envelope_kind file k ≡ marked_kind file k (bytes_left file k)
@@ -135,7 +134,7 @@ module _ (file : List ℕ) (k : ℕ) where
   refused_kind (row_7 r) =
       let f = name_found_lem file (name_in file k) k r.earlier r.before r.carried in
       name_refused file k r.record_at_lem (omega arith)
-      (name_tests file k r.fits true ((well_formed_iff (name_in file k)).1 r.formed) (At f.0) f.1)
+      (name_tests file k r.fits true ((well_formed_iff (name_in file k)).1 r.formed) (Some f.0) f.1)
   refused_kind (row_18 r) = no_holder file r
   refused_kind (row_19 r) =
       under_later file k r.record_at_lem r.named r.later true (le-leb k (place_in file k) r.late)
@@ -167,13 +166,13 @@ module _ (file : List ℕ) (k : ℕ) where
   by_name : WholeRecord file k → (Named file k → Meaning) → Meaning
   by_name w on = go (dec_lt k 64) (form? (name_in file k)) (record_named file k (name_in file k)) refl
     where
-      go : Dec (k < 64) → Dec (NameForm (name_in file k)) → (f : Found) → record_named file k (name_in file k) ≡ f → Meaning
+      go : Dec (k < 64) → Dec (NameForm (name_in file k)) → (f : Option ℕ) → record_named file k (name_in file k) ≡ f → Meaning
       go (no h) form f e = no_row (row_5 record { record_at_lem = w; more = omega arith })
       go (yes fits) (no bad) f e = no_row (row_6 record { record_at_lem = w; fits = fits; malformed = bad })
-      go (yes fits) (yes form) (At i) e =
+      go (yes fits) (yes form) (Some i) e =
           let at = name_at file (name_in file k) k i e in
           no_row (row_7 record { record_at_lem = w; fits = fits; formed = form; earlier = i; before = at.below; carried = at.here })
-      go (yes fits) (yes form) Nothing e =
+      go (yes fits) (yes form) None e =
           on (record { fits = fits; formed = form; new = name_none file (name_in file k) k e })
 
   held_read : WholeHeld file k → Named file k → Meaning

@@ -1,4 +1,5 @@
 -- The answer of `derive` by the path to a record: from the held secret down, step by step.
+use Rattle.std.specs.Prelude.{None, Option, Some}
 use Prim.Native.Nat.{ℕ, zero, suc, ◌+◌, ◌≤◌, ◌<◌}
 use mathlib.Core.Bool.{Bool, true, false, false≢true}
 use mathlib.Core.List.{List}
@@ -6,8 +7,6 @@ use mathlib.Core.Path.{◌≡◌, refl, sym, ap, ap₂, ◌∙◌}
 use native.Mathlib.Numerals.{add-one}
 use native.Mathlib.Omega.{arith}
 use lib.ListN.{length}
-use Rattle.format.specs.declared.Found.TheVariants.{At, Nothing}
-use Rattle.format.specs.declared.Found.{Found}
 use Rattle.hmac.specs.Secrets.{child_secret, label_key}
 use Rattle.envelope_file.proofs.Asked.{asked_whole, asked_at, asked_read, Asking, no_envelope, not_there, there, asking}
 use Rattle.envelope_file.proofs.Meaning.{name_at, name_none}
@@ -60,7 +59,7 @@ module _ (file : List ℕ) (ok : AcceptedEnvelope file) (k : ℕ) (l : k < recor
 
 -- the answer for a name that is in the envelope, and no other answer fits the words
 module _ (file name : List ℕ) where
-  at_record : AcceptedEnvelope file → {k : ℕ} → record_asked file (records_of file) name ≡ At k → DerivedBy file name (derived_at file k)
+  at_record : AcceptedEnvelope file → {k : ℕ} → record_asked file (records_of file) name ≡ Some k → DerivedBy file name (derived_at file k)
   unfolding derived_at
   at_record ok {k} e =
       let at = name_at file name (records_of file) k (asked_at file (records_of file) name k e) in
@@ -86,22 +85,22 @@ module _ (file name : List ℕ) where
       go (not_there ok n) e = absurd (omega arith)
       go (there ok f) e = at_record ok f
 
-  found_first : AcceptedEnvelope file → {d : Derived} → (r : DerivedBy file name d) → record_asked file (records_of file) name ≡ At r.place
+  found_first : AcceptedEnvelope file → {d : Derived} → (r : DerivedBy file name d) → record_asked file (records_of file) name ≡ Some r.place
   found_first ok r =
       asked_whole file (records_of file) name (ap length (sym r.carries) ∙ name_length file ok r.place r.below)
       ∙ go (record_named file (records_of file) name) refl
     where
-      go : (f : Found) → record_named file (records_of file) name ≡ f → f ≡ At r.place
-      go (At i) e =
+      go : (f : Option ℕ) → record_named file (records_of file) name ≡ f → f ≡ Some r.place
+      go (Some i) e =
           let at = name_at file name (records_of file) i e in
           let less : i < r.place → ⊥ = λ l. r.first i l at.here in
           let more : r.place < i → ⊥ = λ l. at.first r.place l r.carries in
-          ap At (omega arith)
-      go Nothing e = absurd (name_none file name (records_of file) e r.place r.below r.carries)
+          ap Some (omega arith)
+      go None e = absurd (name_none file name (records_of file) e r.place r.below r.carries)
 
   pub derived_only : AcceptedEnvelope file → {d : Derived} → DerivedBy file name d → derived_of file name ≡ d
   unfolding derived_at
-  derived_only ok {d} r = asked_read file name ok (At r.place) (found_first ok r) ∙ rw (key, applications, r.no_refusal)
+  derived_only ok {d} r = asked_read file name ok (Some r.place) (found_first ok r) ∙ rw (key, applications, r.no_refusal)
     where
       walk : Walk
       walk = walk_to file r.place

@@ -4,20 +4,14 @@ use mathlib.Core.Bool.{Bool, true, false, cond}
 use mathlib.Core.List.{List}
 use mathlib.Core.Path.{◌≡◌, refl, sym, ap, ◌∙◌}
 use native.Mathlib.Decide.{dec_le}
-use native.Mathlib.Numerals.{add-one}
 use native.Mathlib.Omega.{arith}
 use lib.ListN.{length, set, replicate}
 use borrow.Author.Tests.{lt-ltb, le-ltb, eq-eqb, ne_eqb}
 use Rattle.format.specs.Bytes.{bytes_at, same_bytes}
 use Rattle.format.specs.Marks.{EN}
-use Rattle.lists.proofs.Tables.{fill_more, get_d_filled}
-use Rattle.lists.specs.Tables.{listed, filled}
-use Rattle.envelope_file.proofs.Meaning.{Means, is_refused, is_held_lem, is_under, kind_iff}
-use Rattle.envelope_file.proofs.Passing.{next_start, held_true, under_false}
-use Rattle.envelope_file.proofs.Starts.{start_up}
+use Rattle.envelope_file.proofs.Meaning.{Means, is_refused, kind_iff}
 use Rattle.envelope_file.proofs.Verdict.{row_number}
 use Rattle.envelope_file.specs.File.{account_in, start_of}
-use Rattle.envelope_file.specs.Reads.{Located}
 use Rattle.envelope_file.specs.Record.{envelope_kind}
 use Rattle.envelope_file.specs.Whole.{head_refusal, refused, nothing_read, with_record, on_envelope_kind, scan_from, settled, contents_of, on_count, count_from, envelope_records_read}
 use Rattle.envelope_file.specs.declared.Contents.{Contents}
@@ -90,29 +84,17 @@ count_kind n file k e = rw e
 abbrev so_far : ℕ → List ℕ → List ℕ → Contents
 so_far records starts places = record { refusal = 0; records = records; starts = starts; places = places }
 
--- what holds after so many records: they lie within the file, the table says where each starts, and answer and count are those of the rest
-pub record Reading (file starts places : List ℕ) (records at : ℕ) : Type 0 where
-  pub few : records ≤ 64
-  pub here : at ≡ start_of file records
-  pub within : at ≤ length file
-  pub table : starts ≡ filled 64 0 (start_of file) records
+-- what holds after so many records, kept in two tables: answer and count are those of the rest
+pub record Reading (file starts places : List ℕ) (records : ℕ) : Type 0 where
   pub rest : scan_from 65 file nothing_read ≡ scan_from (65 - records) file (so_far records starts places)
   pub count : count_from 65 file 0 ≡ count_from (65 - records) file records
 
-pub reading_start : (file : List ℕ) → 12 ≤ length file → Reading file (replicate 64 0) (replicate 64 0) 0 12
-unfolding start_of listed
-reading_start file h = record { few = omega arith; here = refl; within = h; table = refl; rest = refl; count = refl }
+pub reading_start : (file : List ℕ) → Reading file (replicate 64 0) (replicate 64 0) 0
+reading_start file = record { rest = refl; count = refl }
 
-module _ (file starts places : List ℕ) (records at : ℕ) (r : Reading file starts places records at) where
-  pub reading_located : Located file starts records
-  reading_located = record {
-    few = r.few;
-    begins = λ k l. rw r.table (get_d_filled (start_of file) 64 0 records k 0 l);
-    within = λ k l. omega (arith, start_up file (suc k) records (omega arith), r.here, r.within);
-  }
-
+module _ (file starts places : List ℕ) (records : ℕ) (few : records ≤ 64) (r : Reading file starts places records) where
   more : 65 - records ≡ suc (65 - (records + 1))
-  more = omega (arith, r.few)
+  more = omega (arith, few)
 
   -- the answer by the kind of the next record
   answer : {kind : Kind} → envelope_kind file records ≡ kind
@@ -122,36 +104,22 @@ module _ (file starts places : List ℕ) (records at : ℕ) (r : Reading file st
   count_up : {kind : Kind} → envelope_kind file records ≡ kind → count_from 65 file 0 ≡ on_count (count_from (65 - (records + 1)) file) records kind
   count_up e = r.count ∙ rw more (count_kind (65 - (records + 1)) file records e)
 
-  -- a record of so many bytes more, kept with the place that it gives
-  next : (size place : ℕ) → records < 64 → start_of file (suc records) ≡ start_of file records + size → start_of file records + size ≤ length file
-      → scan_from 65 file nothing_read ≡ scan_from (65 - (records + 1)) file (with_record file (so_far records starts places) place)
-      → count_from 65 file 0 ≡ count_from (65 - (records + 1)) file (records + 1)
-      → Reading file (set starts records at) (set places records place) (records + 1) (at + size)
-  next size place l e w s n = record {
-    few = omega arith;
-    here = rw (add-one, e, r.here);
-    within = omega (arith, r.here);
-    table = rw (r.table, r.here) (fill_more (start_of file) 64 0 records l);
-    rest = s ∙ ap (λ (x : ℕ). scan_from (65 - (records + 1)) file (so_far (records + 1) (set starts records x) (set places records place))) (sym r.here);
-    count = n;
-  }
+  -- a record more, kept with the place that it gives
+  module _ (at : ℕ) (here : at ≡ start_of file records) where
+    next : (place : ℕ) → scan_from 65 file nothing_read ≡ scan_from (65 - (records + 1)) file (with_record file (so_far records starts places) place)
+        → count_from 65 file 0 ≡ count_from (65 - (records + 1)) file (records + 1)
+        → Reading file (set starts records at) (set places records place) (records + 1)
+    next place s n = record {
+      rest = s ∙ ap (λ (x : ℕ). scan_from (65 - (records + 1)) file (so_far (records + 1) (set starts records x) (set places records place))) (sym here);
+      count = n;
+    }
 
-  pub reading_held : envelope_kind file records ≡ Held → Reading file (set starts records at) (set places records records) (records + 1) (at + 42)
-  reading_held e = go ((kind_iff file records Held).0 e)
-    where
-      go : Means file records Held → Reading file (set starts records at) (set places records records) (records + 1) (at + 42)
-      go (is_held_lem w n first) =
-          next 42 records n.fits (next_start file records true (held_true w)) (omega (arith, w.whole, r.here, r.within))
-          (answer e) (count_up e)
+    pub reading_held : envelope_kind file records ≡ Held → Reading file (set starts records at) (set places records records) (records + 1)
+    reading_held e = next records (answer e) (count_up e)
 
-  pub reading_under : {place : ℕ} → envelope_kind file records ≡ Under place
-      → Reading file (set starts records at) (set places records place) (records + 1) (at + 11)
-  reading_under {place} e = go ((kind_iff file records (Under place)).0 e)
-    where
-      go : {p : ℕ} → Means file records (Under p) → Reading file (set starts records at) (set places records place) (records + 1) (at + 11)
-      go (is_under w n later falls) =
-          next 11 place n.fits (next_start file records false (under_false w)) (omega (arith, w.whole, r.here, r.within))
-          (answer e) (count_up e)
+    pub reading_under : {place : ℕ} → envelope_kind file records ≡ Under place
+        → Reading file (set starts records at) (set places records place) (records + 1)
+    reading_under {place} e = next place (answer e) (count_up e)
 
   -- the answer and the count, at the end and at a refused record
   pub reading_end : envelope_kind file records ≡ End → settled (so_far records starts places) ≡ scan_from 65 file nothing_read

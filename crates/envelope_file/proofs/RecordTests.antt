@@ -1,4 +1,5 @@
 -- Laws of one record: its kind by the tests that led there.
+use Rattle.std.specs.Prelude.{None, Some}
 use Prim.Native.Nat.{ℕ, ◌-◌, ◌≤◌, ◌<◌}
 use mathlib.Core.Bool.{true, false}
 use mathlib.Core.List.{List}
@@ -8,7 +9,6 @@ use borrow.Author.Tests.{le-leb, lt-leb, lt-ltb, le-ltb, eq-eqb, ne_eqb}
 use Rattle.format.specs.Bytes.{bytes_at, same_bytes}
 use Rattle.format.specs.Marks.{KD}
 use Rattle.format.specs.Names.{well_formed}
-use Rattle.format.specs.declared.Found.TheVariants.{At, Nothing}
 use Rattle.envelope_file.specs.File.{head_name, start_of, is_held, name_in, place_in, record_named}
 use Rattle.envelope_file.specs.Record.{name_refusal, held_kind, under_kind, marked_kind, envelope_kind}
 use Rattle.envelope_file.specs.declared.Kind.TheVariants.{Held, Under, End, Refused}
@@ -24,11 +24,11 @@ module _ (file : List ℕ) (k : ℕ) where
     unfolding name_refusal
     name_unformed e = rw (lt-leb 64 k few, e)
 
-    pub name_carried : well_formed (name_in file k) ≡ true → (i : ℕ) → record_named file k (name_in file k) ≡ At i → name_refusal file k ≡ 7
+    pub name_carried : well_formed (name_in file k) ≡ true → (i : ℕ) → record_named file k (name_in file k) ≡ Some i → name_refusal file k ≡ 7
     unfolding name_refusal
     name_carried e i found = rw (lt-leb 64 k few, e, found)
 
-    pub name_new : well_formed (name_in file k) ≡ true → record_named file k (name_in file k) ≡ Nothing → name_refusal file k ≡ 0
+    pub name_new : well_formed (name_in file k) ≡ true → record_named file k (name_in file k) ≡ None → name_refusal file k ≡ 0
     unfolding name_refusal
     name_new e found = rw (lt-leb 64 k few, e, found)
 

@@ -1,7 +1,5 @@
 -- What `derive` answers for an envelope and a name asked for.
-use Rattle.std.specs.Prelude.{ℕ, zero, suc, ◌+◌, true, false, cond, List, ◌≡◌, eqb, length, replicate}
-use Rattle.format.specs.declared.Found.TheVariants.{At, Nothing}
-use Rattle.format.specs.declared.Found.{Found}
+use Rattle.std.specs.Prelude.{ℕ, zero, suc, ◌+◌, true, false, cond, List, ◌≡◌, eqb, length, replicate, None, Option, Some}
 use Rattle.hmac.specs.Secrets.{child_secret, label_key}
 use Rattle.envelope_file.specs.File.{is_held, name_in, secret_in, place_in, record_named}
 use Rattle.envelope_file.specs.Whole.{envelope_refusal, records_of}
@@ -42,13 +40,13 @@ derived_at file k = record {
 }
 
 -- 20, "name asked for is not in it"
-abbrev pub on_found : List ℕ → Found → Derived
-on_found file (At k) = derived_at file k
-on_found file Nothing = refused_derived 20
+abbrev pub on_found : List ℕ → Option ℕ → Derived
+on_found file (Some k) = derived_at file k
+on_found file None = refused_derived 20
 
 -- "or not 8 bytes"
-unfoldable pub record_asked : List ℕ → ℕ → List ℕ → Found
-record_asked file records name = cond (eqb (length name) 8) (record_named file records name) Nothing
+unfoldable pub record_asked : List ℕ → ℕ → List ℕ → Option ℕ
+record_asked file records name = cond (eqb (length name) 8) (record_named file records name) None
 
 -- 20 comes "after the whole envelope"
 unfoldable pub derived_of : List ℕ → List ℕ → Derived

@@ -1,10 +1,9 @@
 -- Where things stand in a key envelope (01, "Secrets, keys and the envelope"): "An envelope is `EN`, account number (2 bytes), the account's
 -- label name; then one record for each label at or below it".
-use Rattle.std.specs.Prelude.{ℕ, zero, suc, ◌+◌, Bool, cond, List, get_or}
+use Rattle.std.specs.Prelude.{ℕ, zero, suc, ◌+◌, Bool, cond, List, get_or, Option}
 use Rattle.format.specs.Bytes.{bytes_at, same_bytes, number_at}
 use Rattle.format.specs.Marks.{KS}
 use Rattle.format.specs.Search.{first_from}
-use Rattle.format.specs.declared.Found.{Found}
 
 -- the account number and the name of the header's 12 bytes
 abbrev pub account_in : List ℕ → ℕ
@@ -43,5 +42,5 @@ place_in file k = get_or file (start_of file k + 10) 0
 unfoldable pub carries : List ℕ → List ℕ → ℕ → Bool
 carries file name k = same_bytes (name_in file k) name
 
-unfoldable pub record_named : List ℕ → ℕ → List ℕ → Found
+unfoldable pub record_named : List ℕ → ℕ → List ℕ → Option ℕ
 record_named file records name = first_from (carries file name) 0 records

@@ -1,6 +1,6 @@
 -- What the functions that read records ask of those read before.
-use Rattle.std.specs.Prelude.{ℕ, suc, ◌≤◌, ◌<◌, true, false, List, ◌≡◌, length, get_or}
-use Rattle.envelope_file.specs.File.{start_of, is_held, place_in}
+use Rattle.std.specs.Prelude.{ℕ, suc, ◌+◌, ◌≤◌, ◌<◌, true, false, List, ◌≡◌, length, get_or}
+use Rattle.envelope_file.specs.File.{record_size, start_of, is_held, place_in}
 
 -- so many records lie within the file, and the table says where each starts
 pub record Located (file starts : List ℕ) (records : ℕ) : Type 0 where
@@ -16,3 +16,13 @@ pub record Placed (file places : List ℕ) (records : ℕ) : Type 0 where
 -- the place in a record that holds no secret is less than its own
 pub record Falling (file : List ℕ) (records : ℕ) : Type 0 where
   pub falls : (k : ℕ) → k < records → is_held file k ≡ false → place_in file k < k
+
+-- the record after k others has so many bytes, within the file, and is kept with this place: its own if it holds its secret, else the one in the
+-- file, which is less
+pub record Next (file : List ℕ) (k size place : ℕ) : Type 0 where
+  pub few : k < 64
+  pub sized : size ≡ record_size (is_held file k)
+  pub within : start_of file k + size ≤ length file
+  pub own : is_held file k ≡ true → place ≡ k
+  pub given : is_held file k ≡ false → place ≡ place_in file k
+  pub falls : is_held file k ≡ false → place_in file k < k

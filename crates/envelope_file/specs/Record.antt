@@ -1,19 +1,17 @@
 -- One record of an envelope, read after k others: one that holds a secret, one that stands under the record at a place, the end of the
 -- file or a refusal. Refusals in the order of 01's table: 2, 3, 5, 6 and 7 at any record, 18 at the first, 19 at `KD`.
-use Rattle.std.specs.Prelude.{ℕ, ◌-◌, cond, not, List, leb, ltb, eqb, length}
+use Rattle.std.specs.Prelude.{ℕ, ◌-◌, cond, not, List, leb, ltb, eqb, length, None, Option, Some}
 use Rattle.format.specs.Bytes.{bytes_at, same_bytes}
 use Rattle.format.specs.Marks.{KD}
 use Rattle.format.specs.Names.{well_formed}
-use Rattle.format.specs.declared.Found.TheVariants.{At, Nothing}
-use Rattle.format.specs.declared.Found.{Found}
 use Rattle.envelope_file.specs.File.{head_name, start_of, is_held, name_in, place_in, record_named}
 use Rattle.envelope_file.specs.declared.Kind.TheVariants.{Held, Under, End, Refused}
 use Rattle.envelope_file.specs.declared.Kind.{Kind}
 
 -- 7, "name carried by an earlier record"
-abbrev pub carried_refusal : Found → ℕ
-carried_refusal (At i) = 7
-carried_refusal Nothing = 0
+abbrev pub carried_refusal : Option ℕ → ℕ
+carried_refusal (Some i) = 7
+carried_refusal None = 0
 
 -- 5, "65th envelope record"; 6, "name badly formed"; 7; or 0
 unfoldable pub name_refusal : List ℕ → ℕ → ℕ

@@ -3,22 +3,19 @@
 
 ghost use Rattle.std.specs.Prelude.{◌≡◌};
 ghost use Rattle.envelope_file.specs.Labels.{names_in, refused_labels, envelope_labels};
-ghost use Rattle.envelope_file.specs.Reads.{Located};
 
 use envelope::read_envelope;
 use envelope_file::Labels;
+use envelope_records::Records;
 
-// The names of `records` records, one after the other.
-fn read_names(envelope: &[u8], records: usize, starts: &[usize; 64]) -> [u8; 512]
-    requires { Located envelope.now starts.now records }
-    ensures { result ≡ names_in envelope.now records }
+// The names of an envelope's records, one after the other.
+fn read_names(read: &Records) -> [u8; 512]
+    ensures { result ≡ names_in read.now.envelope.now read.now.count }
 {
     let mut names = [0u8; 512];
-    let mut i = 0;
-    while i < 8 * records {
-        let at = starts[i / 8];
-        names[i] = envelope[at + 2 + i % 8];
-        i += 1;
+    for k in 0..read.count {
+        let at = read.starts[k] + 2;
+        names[8 * k..8 * k + 8].copy_from_slice(&read.envelope[at..at + 8]);
     }
     names
 }
@@ -44,13 +41,13 @@ pub fn read_labels(envelope: &[u8]) -> Labels
     if read.refusal != 0 {
         return refused_labels(read.refusal);
     }
-    let starts = read.starts;
     let account = format::read_number(envelope, 2);
+    let records = Records::all(envelope, read);
     Labels {
         refusal: 0,
         zeros: [0u8; 5],
         account,
-        labels: read.records,
-        names: read_names(envelope, read.records, &starts),
+        labels: records.count,
+        names: read_names(&records),
     }
 }

@@ -2,45 +2,43 @@
 #![tactic(auto)]
 
 ghost use Rattle.std.specs.Prelude.{◌≡◌, ◌+◌, ◌≤◌, length};
-ghost use Rattle.envelope_file.specs.File.{start_of, record_named};
+ghost use Rattle.envelope_file.specs.File.{record_named};
 ghost use Rattle.envelope_file.specs.Record.{name_refusal};
-ghost use Rattle.envelope_file.specs.Reads.{Located};
 
-use format::Found;
+use envelope_records::Records;
 
-// The first of `records` records that carries the name, or none.
-pub fn find_record(envelope: &[u8], records: usize, starts: &[usize; 64], name: [u8; 8]) -> Found
-    requires { Located envelope.now starts.now records }
-    ensures { result ≡ record_named envelope.now records name }
+// The first record that carries the name, or none.
+pub fn find_record(read: &Records, name: [u8; 8]) -> Option<usize>
+    ensures { result ≡ record_named read.now.envelope.now read.now.count name }
 {
+    // The project's scope names this form: a loop that breaks out with the place found as its value, or with not found.
     let mut k = 0;
-    let found = loop {
-        if k == records {
-            break Found::Nothing;
+    loop {
+        if k == read.count {
+            break None;
         }
-        let at = starts[k];
-        if names::same_name(names::read_name(envelope, at + 2), name) {
-            break Found::At(k);
+        let at = read.starts[k];
+        if names::same_name(names::read_name(read.envelope, at + 2), name) {
+            break Some(k);
         }
         k += 1;
-    };
-    found
+    }
 }
 
-// The number that the name of the record after `records` others is refused under, 0 when it is not.
-pub fn name_refusal(envelope: &[u8], records: usize, starts: &[usize; 64], at: usize) -> u8
-    requires { Located envelope.now starts.now records × (at ≡ start_of envelope.now records) × (at + 11 ≤ length envelope.now) }
-    ensures { result ≡ name_refusal envelope.now records }
+// The number that the name of the next record is refused under, 0 when it is not.
+pub fn name_refusal(read: &Records) -> u8
+    requires { read.now.end + 11 ≤ length read.now.envelope.now }
+    ensures { result ≡ name_refusal read.now.envelope.now read.now.count }
 {
-    if 64 <= records {
+    if 64 <= read.count {
         return 5;
     }
-    let name = names::read_name(envelope, at + 2);
+    let name = names::read_name(read.envelope, read.end + 2);
     if !name_form::well_formed(&name) {
         return 6;
     }
-    match find_record(envelope, records, starts, name) {
-        Found::At(_) => 7,
-        Found::Nothing => 0,
+    match find_record(read, name) {
+        Some(_) => 7,
+        None => 0,
     }
 }

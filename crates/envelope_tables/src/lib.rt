@@ -15,13 +15,9 @@ pub fn places(labels: usize, rows: &[[bool; 64]; 64], l: usize) -> [u8; 64]
 {
     let mut places = [0u8; 64];
     let mut before: u8 = 0;
-    let mut i = 0;
-    while i < labels {
+    for i in 0..labels {
         places[i] = before;
-        if rows[i][l] {
-            before += 1;
-        }
-        i += 1;
+        before += u8::from(rows[i][l]);
     }
     places
 }
@@ -37,10 +33,8 @@ pub fn held_labels(
     ensures { result ≡ filled 64 false (in_smallest (entry_at rows.now) (entries parents.now) l) labels }
 {
     let mut held = [false; 64];
-    let mut m = 0;
-    while m < labels {
+    for m in 0..labels {
         held[m] = sets::in_smallest(rows, parents, l, m);
-        m += 1;
     }
     held
 }

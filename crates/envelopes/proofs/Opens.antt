@@ -1,4 +1,5 @@
 -- Demand 2: from the envelope alone the desk derives the issuer's own key of every label at or below l, and no other name opens anything.
+use Rattle.std.specs.Prelude.{None, Option, Some}
 use Prim.Native.Nat.{ℕ, zero, suc, ◌+◌, ◌<◌}
 use mathlib.Core.Bool.{Bool, true, false, cond}
 use mathlib.Core.List.{List}
@@ -15,8 +16,6 @@ use Rattle.envelope_file.specs.Derive.{step_down, walk_to, refused_derived, deri
 use Rattle.envelope_file.specs.File.{name_in, record_named}
 use Rattle.envelope_file.specs.Reads.{Falling}
 use Rattle.envelope_file.specs.declared.Walk.{Walk}
-use Rattle.format.specs.declared.Found.TheVariants.{At, Nothing}
-use Rattle.format.specs.declared.Found.{Found}
 use Rattle.hmac.specs.Secrets.{label_key}
 use Rattle.trees.proofs.Lists.{answers}
 use Rattle.trees.proofs.Order.{test_yes, test_says}
@@ -85,19 +84,19 @@ module _ {n : ℕ} {R : ℕ → ℕ → Type 0} {le : ℕ → ℕ → Bool} {nam
   -- ---- the search for a name
 
   -- the name of a label at or below l is found in its record
-  finds : (m : ℕ) → m < n → le m l ≡ true → record_named file (place n) (name m) ≡ At (place m)
+  finds : (m : ℕ) → m < n → le m l ≡ true → record_named file (place n) (name m) ≡ Some (place m)
   finds m hm e = go (record_named file (place n) (name m)) refl
     where
-      go : (f : Found) → record_named file (place n) (name m) ≡ f → f ≡ At (place m)
-      go (At k) h =
+      go : (f : Option ℕ) → record_named file (place n) (name m) ≡ f → f ≡ Some (place m)
+      go (Some k) h =
           let found = name_at file (name m) (place n) k h in
           let same : name_in file k ≡ name_in file (place m) = found.here ∙ sym (reads_name L I m hm e) in
           let early : place m < place n = place_before le l m n hm e in
-          ap At (names_distinct file (is_accepted L I) k (place m) (omega (arith, how_many L I, found.below)) (omega (arith, how_many L I)) same)
-      go Nothing h = absurd (name_none file (name m) (place n) h (place m) (place_before le l m n hm e) (reads_name L I m hm e))
+          ap Some (names_distinct file (is_accepted L I) k (place m) (omega (arith, how_many L I, found.below)) (omega (arith, how_many L I)) same)
+      go None h = absurd (name_none file (name m) (place n) h (place m) (place_before le l m n hm e) (reads_name L I m hm e))
 
   -- and a name of none of them is not found
-  misses : (asked : List ℕ) → ((m : ℕ) → m < n → le m l ≡ true → asked ≢ name m) → record_named file (place n) asked ≡ Nothing
+  misses : (asked : List ℕ) → ((m : ℕ) → m < n → le m l ≡ true → asked ≢ name m) → record_named file (place n) asked ≡ None
   misses asked other = name_new file asked (place n) (λ k h. at k (place_label le l n k h))
     where
       at : (k : ℕ) → LabelAt le l n k → name_in file k ≢ asked
@@ -115,7 +114,7 @@ module _ {n : ℕ} {R : ℕ → ℕ → Type 0} {le : ℕ → ℕ → Bool} {nam
   unfolding record_asked derived_at key_of
   opens m hm r =
       let e : le m l ≡ true = test_yes L.order hm I.label r in
-      let there : record_asked file (place n) (name m) ≡ At (place m) = rw (eq-eqb (length (name m)) 8 (L.eight m hm)) (finds m hm e) in
+      let there : record_asked file (place n) (name m) ≡ Some (place m) = rw (eq-eqb (length (name m)) 8 (L.eight m hm)) (finds m hm e) in
       searches (name m)
       ∙ ap (on_found file) there
       ∙ ap₂ (λ (w : Walk) (s : List ℕ). record { refusal = 0; key = label_key w.secret s; applications = w.steps + 1 }) (walks m hm e) (reads_name L I m hm e)
@@ -124,9 +123,9 @@ module _ {n : ℕ} {R : ℕ → ℕ → Type 0} {le : ℕ → ℕ → Bool} {nam
   pub refuses : (asked : List ℕ) → ((m : ℕ) → m < n → R m l → asked ≢ name m) → derived_of (envelope_of name le parent root l n account) asked ≡ refused_derived 20
   unfolding record_asked
   refuses asked other =
-      let none : record_named file (place n) asked ≡ Nothing = misses asked (λ m hm e. other m hm (test_says L.order hm I.label e)) in
-      searches asked ∙ ap (on_found file) (ap (λ (f : Found). cond (eqb (length asked) 8) f Nothing) none ∙ either (eqb (length asked) 8))
+      let none : record_named file (place n) asked ≡ None = misses asked (λ m hm e. other m hm (test_says L.order hm I.label e)) in
+      searches asked ∙ ap (on_found file) (ap (λ (f : Option ℕ). cond (eqb (length asked) 8) f None) none ∙ either (eqb (length asked) 8))
     where
-      either : (t : Bool) → cond t Nothing Nothing ≡ Nothing
+      either : (t : Bool) → cond {A = Option ℕ} t None None ≡ None
       either true = refl
       either false = refl

@@ -1,4 +1,5 @@
 -- What `second_top` and `ill_hung` answer, by the tests that lead there.
+use Rattle.std.specs.Prelude.{Option}
 use Prim.Native.Nat.{ℕ, ◌+◌, ◌-◌, ◌≤◌}
 use mathlib.Core.List.{List}
 use mathlib.Core.Logic.{◌≢◌}
@@ -9,7 +10,6 @@ use lib.ListN.{length}
 use Rattle.faults.specs.Faults.{no_name, name_found, Inside, is_no_lower, no_lower_at, second_top, is_ill_hung, ill_hung_at, ill_hung}
 use Rattle.faults.proofs.Searches.{name_none, found_inside}
 use Rattle.format.specs.Search.{first_from}
-use Rattle.format.specs.declared.Found.{Found}
 use Rattle.plan_answers.proofs.PolicyOrder.{policy_order}
 use Rattle.plan_answers.proofs.TreeNumbers.{tree_refusal_12}
 use Rattle.plan_answers.specs.Planned.{at_or_below}
@@ -34,7 +34,7 @@ module _ (policy : List ℕ) {s : Policy} (stop : s ≡ stop_of policy) where
   second_refused ne = rw (← stop) (name_none policy (rw (ne_eqb s.refusal 0 ne)))
 
   -- at the end
-  module _ {found : Found} (e : found ≡ first_from (is_no_lower s.over s.pairs) 1 (s.labels - 1)) where
+  module _ {found : Option ℕ} (e : found ≡ first_from (is_no_lower s.over s.pairs) 1 (s.labels - 1)) where
     pub second_inside : Inside policy found
     second_inside =
         found_inside policy (is_no_lower s.over s.pairs) 1 (s.labels - 1) e (λ m a b.
@@ -74,5 +74,5 @@ module _ (policy tree : List ℕ) where
       unfolding ill_hung ill_hung_at
       hung_found = rw (eq-eqb (weigh_refusal policy tree) 12 (same_number ∙ twelve))
 
-  pub hung_inside : {found : Found} → found ≡ first_from (is_ill_hung (at_or_below policy) tree) 0 (label_count policy) → Inside policy found
+  pub hung_inside : {found : Option ℕ} → found ≡ first_from (is_ill_hung (at_or_below policy) tree) 0 (label_count policy) → Inside policy found
   hung_inside e = found_inside policy (is_ill_hung (at_or_below policy) tree) 0 (label_count policy) e (λ m a b. omega (arith, (bounds policy).2))

@@ -1,4 +1,5 @@
 -- The label that refusal 10 means, in the words of specs/Words.antt: with it `second_top` answers that label's name, without it eight spaces.
+use Rattle.std.specs.Prelude.{None, Option, Some}
 use Prim.Native.Nat.{ℕ, ◌-◌, ◌≤◌}
 use mathlib.Core.Bool.{Bool, true, false, false≢true}
 use mathlib.Core.List.{List}
@@ -12,8 +13,6 @@ use Rattle.faults.specs.Faults.{no_name, is_no_lower, second_top}
 use Rattle.faults.specs.Words.{SecondTop}
 use Rattle.format.proofs.Search.{found_at, not_found}
 use Rattle.format.specs.Search.{first_from}
-use Rattle.format.specs.declared.Found.TheVariants.{At, Nothing}
-use Rattle.format.specs.declared.Found.{Found}
 use Rattle.policy_file.proofs.Answered.{over_of, lower_true, lower_of}
 use Rattle.policy_file.proofs.Demand1.{refusal_10}
 use Rattle.policy_file.proofs.Passing.{label_passed}
@@ -48,8 +47,8 @@ module _ (policy : List ℕ) where
       p : ℕ → Bool
       p = missing policy labels pairs
 
-      go : (f : Found) → first_from p 1 (labels - 1) ≡ f → SecondTop policy (second_top policy)
-      go (At m) e =
+      go : (f : Option ℕ) → first_from p 1 (labels - 1) ≡ f → SecondTop policy (second_top policy)
+      go (Some m) e =
           let r = (refusal_10 policy).0 ten in
           let f = found_at p (labels - 1) 1 m e in
           let stop = sym (stops_only policy (ended_there r.passes r.row.ends)) in
@@ -69,7 +68,7 @@ module _ (policy : List ℕ) where
           first_or : (l : ℕ) → Dec (l ≡ 0) → (1 ≤ l → LowerOf policy labels pairs l) → (l ≡ 0) ⊎ LowerOf policy labels pairs l
           first_or l (yes z) low = inl z
           first_or l (no d) low = inr (low (omega arith))
-      go Nothing e =
+      go None e =
           let u = ((refusal_10 policy).0 ten).row in
           absurd (u.never (some_lower policy labels pairs u.label (not_found p (labels - 1) 1 e u.label (omega (arith, u.other)) (omega (arith, u.other, u.below)))))
 
@@ -80,8 +79,8 @@ module _ (policy : List ℕ) where
       go (refused_there_lem before r) = second_refused policy (sym (stops_only policy (refused_there_lem before r))) (λ z. omega (arith, row_number r))
       go (ended_there {labels} {pairs} before ends) = by (first_from (missing policy labels pairs) 1 (labels - 1)) refl
         where
-          by : (f : Found) → first_from (missing policy labels pairs) 1 (labels - 1) ≡ f → second_top policy ≡ no_name
-          by (At m) e =
+          by : (f : Option ℕ) → first_from (missing policy labels pairs) 1 (labels - 1) ≡ f → second_top policy ≡ no_name
+          by (Some m) e =
               let f = found_at (missing policy labels pairs) (labels - 1) 1 m e in
               absurd (other ((refusal_10 policy).1 record {
                 labels = labels;
@@ -95,7 +94,7 @@ module _ (policy : List ℕ) where
                   never = never_lower policy labels pairs m f.here;
                 };
               }))
-          by Nothing e = second_found policy (sym (stops_only policy (ended_there before ends))) refl refl ∙ name_none policy e
+          by None e = second_found policy (sym (stops_only policy (ended_there before ends))) refl refl ∙ name_none policy e
 
   pub second_top_iff : (policy_refusal policy ≡ 10) ↔ (second_top policy ≢ no_name)
   second_top_iff = (there, back)

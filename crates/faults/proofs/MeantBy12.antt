@@ -1,4 +1,5 @@
 -- The label that refusal 12 means, in the words of specs/Words.antt: with it `ill_hung` answers that label's name, without it eight spaces.
+use Rattle.std.specs.Prelude.{None, Option, Some}
 use Prim.Native.Nat.{ℕ, ◌<◌}
 use mathlib.Core.Bool.{Bool, true, false≢true}
 use mathlib.Core.List.{List}
@@ -12,8 +13,6 @@ use Rattle.faults.specs.Faults.{no_name, is_ill_hung, ill_hung}
 use Rattle.faults.specs.Words.{RightByte, of_top, of_other, IllHung}
 use Rattle.format.proofs.Search.{found_at, not_found}
 use Rattle.format.specs.Search.{first_from}
-use Rattle.format.specs.declared.Found.TheVariants.{At, Nothing}
-use Rattle.format.specs.declared.Found.{Found}
 use Rattle.order.specs.Order.{AtOrBelow}
 use Rattle.plan_answers.proofs.PolicyOrder.{policy_order}
 use Rattle.plan_answers.proofs.TreeNumbers.{top_hangs, above_hangs, tree_refusal_12}
@@ -77,8 +76,8 @@ module _ (policy tree : List ℕ) where
       O : Order n R le
       O = policy_order policy ok
 
-      go : (f : Found) → first_from (is_ill_hung le tree) 0 n ≡ f → IllHung policy tree (ill_hung policy tree)
-      go (At m) e =
+      go : (f : Option ℕ) → first_from (is_ill_hung le tree) 0 n ≡ f → IllHung policy tree (ill_hung policy tree)
+      go (Some m) e =
           let f = found_at (is_ill_hung le tree) n 0 m e in
           let below : m < n = omega (arith, f.below) in
           record {
@@ -90,7 +89,7 @@ module _ (policy tree : List ℕ) where
             before = λ l h. right_byte O tree l (omega arith) (opposite (hangs_at le tree l) (f.before l (omega arith) h));
             named = hung_found policy tree ok twelve ∙ name_at policy m e;
           }
-      go Nothing e =
+      go None e =
           absurd (none_wrong O tree ((tree_refusal_12 O tree).0 twelve).byte
           (λ m h. right_byte O tree m h (opposite (hangs_at le tree m) (not_found (is_ill_hung le tree) n 0 e m (omega arith) (omega arith)))))
 

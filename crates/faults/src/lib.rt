@@ -6,37 +6,26 @@ ghost use Rattle.format.specs.Search.{first_from};
 ghost use Rattle.order.specs.Table.{entry_at};
 ghost use Rattle.faults.specs.Faults.{Inside, name_found, is_no_lower, second_top, is_ill_hung, ill_hung};
 
-use format::Found;
 use order::Pair;
 
 // The name of the label found; eight spaces for none.
-fn name_found(policy: &[u8], found: Found) -> [u8; 8]
+fn name_found(policy: &[u8], found: Option<usize>) -> [u8; 8]
     requires { Inside policy.now found }
     ensures { result ≡ name_found policy.now found }
 {
     match found {
-        Found::At(m) => names::read_name(policy, 12 * m + 2),
-        Found::Nothing => [b' '; 8],
+        Some(m) => names::read_name(policy, 12 * m + 2),
+        None => [b' '; 8],
     }
 }
 
 // The first label other than 0 that is not the lower of one of the first `pairs` pairs.
-fn first_no_lower(labels: usize, pairs: usize, over: [Pair; 512]) -> Found
+fn first_no_lower(labels: usize, pairs: usize, over: [Pair; 512]) -> Option<usize>
     requires { (labels ≤ 64) × (pairs ≤ 512) }
     ensures { result ≡ first_from (is_no_lower over pairs) 1 (labels - 1) }
 {
     let lower = policy::lowers(pairs, over);
-    let mut m = 1;
-    let found = loop {
-        if labels <= m {
-            break Found::Nothing;
-        }
-        if !lower[m] {
-            break Found::At(m);
-        }
-        m += 1;
-    };
-    found
+    (1..labels).find(|m| !lower[*m])
 }
 
 // The label that refusal 10 means: the first label other than 0 that is never the lower of a pair.
@@ -53,21 +42,11 @@ pub fn second_top(policy: &[u8]) -> [u8; 8]
 }
 
 // The first label whose byte in the tree file is not in order.
-fn first_ill_hung(labels: usize, rows: &[[bool; 64]; 64], tree: &[u8]) -> Found
+fn first_ill_hung(labels: usize, rows: &[[bool; 64]; 64], tree: &[u8]) -> Option<usize>
     requires { (labels ≤ 64) × (2 + labels ≤ length tree.now) }
     ensures { result ≡ first_from (is_ill_hung (entry_at rows.now) tree.now) 0 labels }
 {
-    let mut m = 0;
-    let found = loop {
-        if m == labels {
-            break Found::Nothing;
-        }
-        if !tree_file::hangs_at(rows, tree, m) {
-            break Found::At(m);
-        }
-        m += 1;
-    };
-    found
+    (0..labels).find(|m| !tree_file::hangs_at(rows, tree, *m))
 }
 
 // The label that refusal 12 means: the first label whose byte refuses the tree file.

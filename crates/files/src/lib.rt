@@ -1,27 +1,13 @@
 // Standard streams kept, and files read into a buffer. What fails is told on standard error.
 #![tactic(auto)]
 
-ghost use Rattle.std.specs.Prelude.{false, ◌≡◌};
+ghost use Rattle.std.specs.Prelude.{◌≡◌, IfSome, IfOk};
+ghost use Rattle.std.specs.Result.{result_ok};
 ghost use Rattle.io.specs.Counts.{IsPrefixLen};
 
 use std::fs::{File, OpenOptions};
 use std::io::Error;
 use std::os::fd::{AsRawFd, IntoRawFd};
-
-// How many bytes of a file stand at the start of a buffer. Where it could not be read, it is not ok.
-#[derive(Clone, Copy)]
-pub struct Read {
-    pub ok: bool,
-    pub length: usize,
-}
-
-// The same of two files.
-#[derive(Clone, Copy)]
-pub struct Both {
-    pub ok: bool,
-    pub first: usize,
-    pub second: usize,
-}
 
 // Keeps the descriptors 0, 1 and 2 from every file that is opened later, so that no message can get into a file. One that is closed
 // is opened so that it fails all the same: 0 for writing, 1 and 2 for reading.
@@ -43,18 +29,38 @@ fn release(opened: Result<File, Error>, last: i32) {
     }
 }
 
-// A file that could not be opened or read.
-fn unread(rt: HostRuntime, program: &[u8], path: &[u8], error: Error) -> Read
-    ensures { (result.ok ≡ false) × (result.length ≡ 0) }
+// Reads an open file up to its end or the buffer's, and answers how many bytes then stand at the buffer's start.
+fn read_open<F: std::io::Read>(file: &mut F, buffer: &mut [u8]) -> Result<usize, Error>
+    ensures { IfOk result (λ length. IsPrefixLen length buffer.new) }
 {
-    messages::file_failed(rt, program, path, error);
-    Read {
-        ok: false,
-        length: 0,
+    let mut length = 0;
+    while length < buffer.len() {
+        let more = file.read(&mut buffer[length..])?;
+        if more == 0 {
+            return Ok(length);
+        }
+        length += more;
     }
+    Ok(length)
 }
 
-// Tells why a file, or else standard input, could not be read.
+// Reads standard input, as above.
+fn read_stdin(rt: HostRuntime, buffer: &mut [u8]) -> Result<usize, Error>
+    ensures { IfOk result (λ length. IsPrefixLen length buffer.new) }
+{
+    let mut input = rt.stdin();
+    read_open(&mut input, buffer)
+}
+
+// Reads the file that has this path, as above.
+fn read_file(rt: HostRuntime, path: &[u8], buffer: &mut [u8]) -> Result<usize, Error>
+    ensures { IfOk result (λ length. IsPrefixLen length buffer.new) }
+{
+    let mut file = File::open(&rt, arguments::path(path)?)?;
+    read_open(&mut file, buffer)
+}
+
+// Tells why a file that has a path, or else standard input, could not be read.
 fn tell_unread(rt: HostRuntime, program: &[u8], path: Option<&[u8]>, error: Error) {
     match path {
         Some(path) => messages::file_failed(rt, program, path, error),
@@ -62,89 +68,45 @@ fn tell_unread(rt: HostRuntime, program: &[u8], path: Option<&[u8]>, error: Erro
     }
 }
 
-// Reads an open file, which has a path or is standard input, up to its end or the buffer's. Where a read fails nothing counts as read.
-fn read_open<F: std::io::Read>(
+// How many bytes count as read. Where the reading failed none does, and the reason is told.
+fn counted(
     rt: HostRuntime,
     program: &[u8],
     path: Option<&[u8]>,
-    file: &mut F,
-    buffer: &mut [u8],
-) -> Read
-    ensures prefix_len { IsPrefixLen result.length buffer.new }
-    ensures length_value { result.ok ≡ false → result.length ≡ 0 }
+    read: Result<usize, Error>,
+) -> Option<usize>
+    ensures { result ≡ result_ok read }
 {
-    let mut length = 0;
-    while length < buffer.len() {
-        match file.read(&mut buffer[length..]) {
-            Err(error) => {
-                tell_unread(rt, program, path, error);
-                return Read {
-                    ok: false,
-                    length: 0,
-                };
-            }
-            Ok(more) => {
-                if more == 0 {
-                    return Read { ok: true, length };
-                }
-                length += more;
-            }
+    match read {
+        Ok(length) => Some(length),
+        Err(error) => {
+            tell_unread(rt, program, path, error);
+            None
         }
     }
-    Read { ok: true, length }
 }
 
-// The same of a file that has a name, which is told where a read fails.
-fn read_named<F: std::io::Read>(
-    rt: HostRuntime,
-    program: &[u8],
-    file: &mut F,
-    path: &[u8],
-    buffer: &mut [u8],
-) -> Read
-    ensures prefix_len { IsPrefixLen result.length buffer.new }
-    ensures length_value { result.ok ≡ false → result.length ≡ 0 }
+// Reads standard input up to its end or the buffer's, and answers how many bytes then stand at the buffer's start.
+pub fn read_input(rt: HostRuntime, program: &[u8], buffer: &mut [u8]) -> Option<usize>
+    ensures { IfSome result (λ length. IsPrefixLen length buffer.new) }
 {
-    read_open(rt, program, Some(path), file, buffer)
+    let read = read_stdin(rt, buffer);
+    counted(rt, program, None, read)
 }
 
-// Reads standard input up to its end or the buffer's.
-pub fn read_input(rt: HostRuntime, program: &[u8], buffer: &mut [u8]) -> Read
-    ensures prefix_len { IsPrefixLen result.length buffer.new }
-    ensures length_value { result.ok ≡ false → result.length ≡ 0 }
+// Reads the file that argument i names, as above; `-` names standard input.
+pub fn read_argument(rt: HostRuntime, program: &[u8], i: usize, buffer: &mut [u8]) -> Option<usize>
+    ensures { IfSome result (λ length. IsPrefixLen length buffer.new) }
 {
-    let mut input = rt.stdin();
-    read_open(rt, program, None, &mut input, buffer)
-}
-
-// Opens a file for reading.
-fn open_path(rt: HostRuntime, path: &[u8]) -> Result<File, Error> {
-    File::open(&rt, arguments::path(path)?)
-}
-
-// Reads a file up to its end or the buffer's.
-fn read_file(rt: HostRuntime, program: &[u8], path: &[u8], buffer: &mut [u8]) -> Read
-    ensures prefix_len { IsPrefixLen result.length buffer.new }
-    ensures length_value { result.ok ≡ false → result.length ≡ 0 }
-{
-    match open_path(rt, path) {
-        Ok(mut file) => read_named(rt, program, &mut file, path, buffer),
-        Err(error) => unread(rt, program, path, error),
-    }
-}
-
-// Reads the file that argument i names, up to its end or the buffer's; `-` names standard input.
-pub fn read_argument(rt: HostRuntime, program: &[u8], i: usize, buffer: &mut [u8]) -> Read
-    ensures prefix_len { IsPrefixLen result.length buffer.new }
-    ensures length_value { result.ok ≡ false → result.length ≡ 0 }
-{
-    if arguments::is_argument(rt, i, b"-") {
-        let mut input = rt.stdin();
-        return read_named(rt, program, &mut input, b"-", buffer);
-    }
-    let mut path = io::buffer();
-    let length = arguments::argument(rt, i, &mut path);
-    read_file(rt, program, &path[..length], buffer)
+    let mut typed = io::buffer();
+    let length = arguments::argument(rt, i, &mut typed);
+    let path = &typed[..length];
+    let read = if matches!(path, b"-") {
+        read_stdin(rt, buffer)
+    } else {
+        read_file(rt, path, buffer)
+    };
+    counted(rt, program, Some(path), read)
 }
 
 // Tells that two arguments name standard input.
@@ -165,7 +127,7 @@ fn twice_input(rt: HostRuntime, program: &[u8], i: usize, j: usize) -> bool {
     false
 }
 
-// Reads the files that arguments i and j name, each up to its end or its buffer's. Where one cannot be read nothing counts.
+// Reads the files that arguments i and j name, as above, each into its own buffer. Where one cannot be read neither counts.
 pub fn read_both(
     rt: HostRuntime,
     program: &[u8],
@@ -173,36 +135,14 @@ pub fn read_both(
     j: usize,
     first: &mut [u8],
     second: &mut [u8],
-) -> Both
-    ensures prefix_len { IsPrefixLen result.first first.new }
-    ensures prefix_len_2 { IsPrefixLen result.second second.new }
+) -> Option<(usize, usize)>
+    ensures first_len { IfSome result (λ lengths. IsPrefixLen lengths.0 first.new) }
+    ensures second_len { IfSome result (λ lengths. IsPrefixLen lengths.1 second.new) }
 {
     if twice_input(rt, program, i, j) {
-        return Both {
-            ok: false,
-            first: 0,
-            second: 0,
-        };
+        return None;
     }
-    let read = read_argument(rt, program, i, first);
-    if !read.ok {
-        return Both {
-            ok: false,
-            first: 0,
-            second: 0,
-        };
-    }
-    let then = read_argument(rt, program, j, second);
-    if !then.ok {
-        return Both {
-            ok: false,
-            first: 0,
-            second: 0,
-        };
-    }
-    Both {
-        ok: true,
-        first: read.length,
-        second: then.length,
-    }
+    let first_length = read_argument(rt, program, i, first)?;
+    let second_length = read_argument(rt, program, j, second)?;
+    Some((first_length, second_length))
 }

@@ -25,8 +25,6 @@ pub fn fingerprint(root: &[u8]) -> RootFingerprint
     let mac = hmac::hmac_bytes(root, b"Yendlowa root fingerprint");
     RootFingerprint {
         refusal: 0,
-        bytes: [
-            mac[0], mac[1], mac[2], mac[3], mac[4], mac[5], mac[6], mac[7],
-        ],
+        bytes: format::read_bytes(&mac, 0),
     }
 }

@@ -4,10 +4,9 @@ use mathlib.Core.Bool.{Bool, true, false, ◌&&◌, false≢true}
 use mathlib.Core.List.{List, [], ◌∷◌, ◌++◌}
 use mathlib.Core.Path.{◌≡◌, refl, sym, ap, ◌∙◌}
 use native.Mathlib.Decide.{dec_le}
-use native.Mathlib.Nat.{add_assoc}
-use native.Mathlib.Numerals.{add-one}
 use native.Mathlib.Omega.{arith}
 use lib.Dec.{eqb}
+use lib.Pointwise.{pointwise}
 use lib.ListN.{length, get_or, take, drop, drop_of_length-le, length-drop, take-append-drop}
 use lib.Seq.{drop-cons, length-take-le, take_all, take-append-le, drop-append-le}
 use borrow.Author.Tests.{eq-eqb, eqb-true}
@@ -16,10 +15,6 @@ use Rattle.format.specs.Bytes.{bytes_at, same_bytes, number_at, number_bytes}
 -- a number below 65,536 is read back from its two bytes
 pub number_back : (x : ℕ) → x < 65_536 → number_at (number_bytes x) 0 ≡ x
 number_back x h = omega arith
-
--- a string from place i on is its byte there and the string from the next place on
-pub drop_next : (s : List ℕ) (i : ℕ) → i < length s → drop i s ≡ get_or s i 0 ∷ drop (i + 1) s
-drop_next s i h = rw (add-one, drop-cons s i 0)
 
 -- the two sides of a conjunction that holds
 pub and_true : (a b : Bool) → a && b ≡ true → (a ≡ true) × (b ≡ true)
@@ -61,6 +56,14 @@ same? a b = go (same_bytes a b) refl
     go true e = yes (same_eq a b e)
     go false e = no (λ same. false≢true (sym e ∙ same_true a b same))
 
+-- what `==` of two byte strings or arrays answers
+pub same_pointwise : (a b : List ℕ) → same_bytes a b ≡ pointwise eqb a b
+unfolding same_bytes
+same_pointwise [] [] = refl
+same_pointwise [] (y ∷ b) = refl
+same_pointwise (x ∷ a) [] = refl
+same_pointwise (x ∷ a) (y ∷ b) = rw (same_pointwise a b)
+
 -- two strings of n bytes are the same if the first n bytes of both agree, one by one
 abbrev pub agree : List ℕ → List ℕ → ℕ → Bool
 agree a b zero = true
@@ -91,30 +94,8 @@ module _ (a b : List ℕ) where
       through n (omega arith) (omega arith)
       ∙ rw (drop_of_length-le a {i = n} (omega arith), drop_of_length-le b {i = n} (omega arith)) (and_end (agree a b n))
 
--- the bytes at a place, one by one
+-- the bytes at a place: a copy of n of them fills n places
 module _ (s : List ℕ) (at : ℕ) where
-  on : (k : ℕ) → at + k < length s → drop (at + k) s ≡ get_or s (at + k) 0 ∷ drop (at + (k + 1)) s
-  on k l = rw (← (add_assoc at k 1), drop_next s (at + k) l)
-
-  pub two : at + 2 ≤ length s → get_or s at 0 ∷ get_or s (at + 1) 0 ∷ [] ≡ bytes_at s at 2
-  two h = rw (drop_next s at (omega arith), on 1 (omega arith))
-
-  pub eight : at + 8 ≤ length s
-      → get_or s at 0 ∷ get_or s (at + 1) 0 ∷ get_or s (at + 2) 0 ∷ get_or s (at + 3) 0 ∷ get_or s (at + 4) 0 ∷ get_or s (at + 5) 0
-      ∷ get_or s (at + 6) 0 ∷ get_or s (at + 7) 0 ∷ [] ≡ bytes_at s at 8
-  eight h =
-      rw (
-        drop_next s at (omega arith),
-        on 1 (omega arith),
-        on 2 (omega arith),
-        on 3 (omega arith),
-        on 4 (omega arith),
-        on 5 (omega arith),
-        on 6 (omega arith),
-        on 7 (omega arith),
-      )
-
-  -- a copy of n of them fills n places
   pub part_fills : (n : ℕ) → at + n ≤ length s → {out : List ℕ}
       → out ≡ take (at + n - at) (drop at s)
       → out ≡ bytes_at s at n

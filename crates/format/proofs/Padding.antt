@@ -1,16 +1,15 @@
 -- A name without its padding.
-use Prim.Native.Nat.{ℕ, zero, suc, ◌+◌, ◌≤◌, ◌<◌}
+use Prim.Native.Nat.{ℕ, zero, suc, ◌≤◌, ◌<◌}
 use mathlib.Core.Bool.{Bool, true, false, cond}
 use mathlib.Core.List.Memᴰ
 use mathlib.Core.List.{List, [], ◌∷◌, Memᴰ}
 use mathlib.Core.Logic.{⊎_elim}
 use mathlib.Core.Path.{◌≡◌, refl, sym, ap, ◌∙◌}
-use native.Mathlib.Numerals.{add-one}
 use native.Mathlib.Omega.{arith}
 use borrow.Author.Tests.{eq-eqb, ne_eqb, eqb-false}
 use lib.Dec.{eqb}
-use lib.ListN.{length, get_or, take, drop}
-use lib.Seq.{drop-cons, drop-length, length-take-le}
+use lib.ListN.{length, get_or, take}
+use lib.Seq.{length-take-le}
 use Rattle.format.specs.Form.{Sign, letter, digit, NameForm}
 use Rattle.format.specs.Names.{unpadded}
 
@@ -38,20 +37,6 @@ unpadded_short (b ∷ bs) = go (eqb b 32) (unpadded_short bs)
     go : (t : Bool) → length (unpadded bs) ≤ length bs → length (cond t [] (b ∷ unpadded bs)) ≤ suc (length bs)
     go true h = omega arith
     go false h = omega arith
-
--- the bytes before the first space, one by one: the next is a space, is none, or is not there
-module _ (name : List ℕ) (i : ℕ) where
-  pub unpadded_space : i < length name → get_or name i 0 ≡ 32 → length (unpadded (drop i name)) ≡ 0
-  unfolding unpadded
-  unpadded_space h e = rw (drop-cons name i 0 h, eq-eqb (get_or name i 0) 32 e)
-
-  pub unpadded_more : i < length name → (get_or name i 0 ≡ 32 → ⊥) → length (unpadded (drop i name)) ≡ suc (length (unpadded (drop (i + 1) name)))
-  unfolding unpadded
-  unpadded_more h e = rw (drop-cons name i 0 h, ne_eqb (get_or name i 0) 32 e, add-one)
-
-  pub unpadded_end : i ≡ length name → length (unpadded (drop i name)) ≡ 0
-  unfolding unpadded
-  unpadded_end e = rw (e, drop-length)
 
 -- the name's front of that length
 pub unpadded_taken : (name bytes : List ℕ) (n : ℕ) → bytes ≡ name → n ≡ length (unpadded bytes) → take n bytes ≡ unpadded name

@@ -1,4 +1,5 @@
 -- Laws of a search for the first place.
+use Rattle.std.specs.Prelude.{None, Some}
 use Prim.Native.Nat.{ℕ, zero, suc, ◌+◌, ◌-◌, ◌≤◌, ◌<◌}
 use mathlib.Core.Bool.{Bool, true, false}
 use mathlib.Core.Logic.{⊎_elim}
@@ -6,7 +7,6 @@ use mathlib.Core.Path.{◌≡◌, refl, sym, ap, ◌∙◌}
 use native.Mathlib.Nat.{eq-or-lt_of_le, sub-zero}
 use native.Mathlib.Omega.{arith}
 use Rattle.format.specs.Search.{first_from}
-use Rattle.format.specs.declared.Found.TheVariants.{At, Nothing}
 
 -- what is known of a place that was found: it is one of those searched and has p, and none before it has
 pub record FoundAt (p : ℕ → Bool) (i n k : ℕ) : Type 0 where
@@ -16,11 +16,11 @@ pub record FoundAt (p : ℕ → Bool) (i n k : ℕ) : Type 0 where
   pub before : (j : ℕ) → i ≤ j → j < k → p j ≡ false
 
 module _ (p : ℕ → Bool) where
-  pub first_none : (i : ℕ) → first_from p i 0 ≡ Nothing
+  pub first_none : (i : ℕ) → first_from p i 0 ≡ None
   unfolding first_from
   first_none i = refl
 
-  pub first_hit : (i n : ℕ) → p i ≡ true → first_from p i (suc n) ≡ At i
+  pub first_hit : (i n : ℕ) → p i ≡ true → first_from p i (suc n) ≡ Some i
   unfolding first_from
   first_hit i n e = rw (e, first_from)
 
@@ -32,7 +32,7 @@ module _ (p : ℕ → Bool) where
   pub first_start : (n : ℕ) → first_from p 0 n ≡ first_from p 0 (n - 0)
   first_start n = rw sub-zero
 
-  pub hit_at : (i n : ℕ) → i < n → p i ≡ true → first_from p i (n - i) ≡ At i
+  pub hit_at : (i n : ℕ) → i < n → p i ≡ true → first_from p i (n - i) ≡ Some i
   hit_at i n l e =
       let left : n - i ≡ suc (n - (i + 1)) = omega arith in
       rw left (first_hit i (n - (i + 1)) e)
@@ -42,27 +42,27 @@ module _ (p : ℕ → Bool) where
       let left : n - i ≡ suc (n - (i + 1)) = omega arith in
       rw left (first_miss i (n - (i + 1)) e)
 
-  pub none_at : (i n : ℕ) → i ≡ n → first_from p i (n - i) ≡ Nothing
+  pub none_at : (i n : ℕ) → i ≡ n → first_from p i (n - i) ≡ None
   none_at i n e =
       let left : n - i ≡ 0 = omega arith in
       rw left (first_none i)
 
   -- nothing found: no place searched has p
-  pub not_found : (n i : ℕ) → first_from p i n ≡ Nothing → (k : ℕ) → i ≤ k → k < i + n → p k ≡ false
+  pub not_found : (n i : ℕ) → first_from p i n ≡ None → (k : ℕ) → i ≤ k → k < i + n → p k ≡ false
   not_found zero i e k l h = absurd (omega arith)
   not_found (suc n) i e k l h = go (p i) refl (λ none more. not_found n (i + 1) none k more (omega arith))
     where
-      go : (t : Bool) → p i ≡ t → (first_from p (i + 1) n ≡ Nothing → i + 1 ≤ k → p k ≡ false) → p k ≡ false
+      go : (t : Bool) → p i ≡ t → (first_from p (i + 1) n ≡ None → i + 1 ≤ k → p k ≡ false) → p k ≡ false
       go true hit rest = let z : ◌≡◌ {A = ℕ} 0 1 = cc (first_hit i n hit) in absurd (omega arith)
       go false miss rest =
           ⊎_elim (λ same. ap p (sym same) ∙ miss) (λ more. rest (sym (first_miss i n miss) ∙ e) (omega arith)) (eq-or-lt_of_le l)
 
   -- a place found is the first that has p
-  pub found_at : (n i k : ℕ) → first_from p i n ≡ At k → FoundAt p i n k
+  pub found_at : (n i k : ℕ) → first_from p i n ≡ Some k → FoundAt p i n k
   found_at zero i k e = let z : ◌≡◌ {A = ℕ} 0 1 = cc (first_none i) in absurd (omega arith)
   found_at (suc n) i k e = go (p i) refl (found_at n (i + 1) k)
     where
-      go : (t : Bool) → p i ≡ t → (first_from p (i + 1) n ≡ At k → FoundAt p (i + 1) n k) → FoundAt p i (suc n) k
+      go : (t : Bool) → p i ≡ t → (first_from p (i + 1) n ≡ Some k → FoundAt p (i + 1) n k) → FoundAt p i (suc n) k
       go true hit rest =
           let same : i ≡ k = cc (first_hit i n hit) in
           record {

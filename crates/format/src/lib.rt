@@ -1,5 +1,5 @@
 // What issuer and desk share of the file forms: the definitions of marks, names, secrets and two-byte numbers, and the
-// functions that read marks, secrets and numbers.
+// functions that read bytes, marks, secrets and numbers.
 #![tactic(auto)]
 
 ghost use Rattle.std.specs.Prelude.{◌≡◌, ◌+◌, ◌≤◌, length};
@@ -39,11 +39,12 @@ pub enum Class {
     Refused,
 }
 
-// What a search gives: the first place that has what is looked for, or none.
-#[derive(Clone, Copy)]
-pub enum Found {
-    At(usize),
-    Nothing,
+// The `N` bytes that stand in `s` from `at` on.
+pub fn read_bytes<const N: usize>(s: &[u8], at: usize) -> [u8; N]
+    requires { at + N ≤ length s.now }
+    ensures { result ≡ bytes_at s.now at N }
+{
+    *s[at..at + N].first_chunk().unwrap()
 }
 
 // Whether a mark stands in `s` from `at` on.
@@ -51,17 +52,15 @@ pub fn marked(s: &[u8], at: usize, mark: [u8; 2]) -> bool
     requires { at + 2 ≤ length s.now }
     ensures { result ≡ same_bytes (bytes_at s.now at 2) mark }
 {
-    (s[at] == mark[0]) & (s[at + 1] == mark[1])
+    read_bytes(s, at) == mark
 }
 
-// The secret that stands in `s` from `at` on.
+// The secret that stands in `s` from `at` on. Like `read_name` and `read_nonce` it gives `read_bytes` a name, so that a call says what it reads.
 pub fn read_secret(s: &[u8], at: usize) -> [u8; 32]
     requires { at + 32 ≤ length s.now }
     ensures { result ≡ bytes_at s.now at 32 }
 {
-    let mut secret = [0u8; 32];
-    secret.copy_from_slice(&s[at..at + 32]);
-    secret
+    read_bytes(s, at)
 }
 
 // The two-byte number that stands in `s` from `at` on.
@@ -69,5 +68,5 @@ pub fn read_number(s: &[u8], at: usize) -> u16
     requires { at + 2 ≤ length s.now }
     ensures { result ≡ number_at s.now at }
 {
-    (s[at] as u16) * 256 + (s[at + 1] as u16)
+    u16::from_be_bytes(read_bytes(s, at))
 }

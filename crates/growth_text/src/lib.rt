@@ -1,52 +1,56 @@
 // What one more account costs, as text: a line for each label.
 #![tactic(auto)]
 
-ghost use Rattle.std.specs.Prelude.{◌≡◌, ◌+◌, ◌*◌, ◌≤◌, ◌<◌, length};
+ghost use Rattle.std.specs.Prelude.{◌≡◌, ◌+◌, ◌*◌, ◌≤◌, length};
 ghost use Rattle.buffers.specs.Put.{Put};
-ghost use Rattle.growth_answers.specs.GrowthListing.{figures, growth_line, growth_lines};
+ghost use Rattle.growth_answers.specs.GrowthListing.{figures, growth_line};
 ghost use Rattle.growth_answers.specs.GrowthTextAnswer.{growth_written, growth_after};
 
 use buffers::Written;
 use growth_answers::Growth;
+use listings::Lines;
 
 // Writes what one account more costs at a label and the ceiling of that, `-` for each if there is no room for it.
+// The flag stands beside the numbers, and no Option: the definition `figures` takes it so.
+#[tactic(auto, using(growth_answers::proofs::GrowthParts::some_length, growth_answers::proofs::GrowthParts::figures_none))]
 fn put_figures(out: &mut [u8], at: usize, room: bool, cost: u8, ceiling: u8) -> usize
     requires { at + length (figures room cost ceiling) ≤ length out.old }
     ensures { Put out.old out.new at (figures room cost ceiling) result }
 {
     if room {
-        let behind = decimals::put_number(out, at, cost as u32);
-        return decimals::put_number(out, behind, ceiling as u32);
+        let behind = decimals::put_number(out, at, u32::from(cost));
+        return decimals::put_number(out, behind, u32::from(ceiling));
     }
     buffers::put_bytes(out, at, b" - -")
 }
 
-// Writes the line of label `m`.
-fn put_line(policy: &[u8], growth: Growth, m: usize, out: &mut [u8], at: usize) -> usize
-    requires { (m < 64) × (12 * m + 12 ≤ length policy.now) × (at + length (growth_line policy.now growth m) ≤ length out.old) }
-    ensures { Put out.old out.new at (growth_line policy.now growth m) result }
-{
-    let room = format::read_number(policy, 12 * m + 10) < 65535;
-    let cost = growth.costs[m];
-    let ceiling = growth.ceilings[m];
-    let behind = line_parts::put_name(policy, m, out, at);
-    let end = put_figures(out, behind, room, cost, ceiling);
-    buffers::put_bytes(out, end, b"\n")
+// The text of a policy file: a line for each label.
+#[derive(Clone, Copy)]
+struct GrowthLines<'a> {
+    policy: &'a [u8],
+    growth: &'a Growth,
+    ghost few: { growth.now.labels ≤ 64 },
+    ghost within: { 12 * growth.now.labels ≤ length policy.now },
 }
 
-// Writes the lines of all labels from the buffer's start on.
-fn put_lines(policy: &[u8], growth: Growth, out: &mut [u8]) -> usize
-    requires { (growth.labels ≤ 64) × (12 * growth.labels ≤ length policy.now) × (length (growth_lines policy.now growth growth.labels) ≤ length out.old) }
-    ensures { Put out.old out.new 0 (growth_lines policy.now growth growth.labels) result }
-{
-    let labels = growth.labels;
-    let mut at = 0;
-    let mut m = 0;
-    while m < labels {
-        at = put_line(policy, growth, m, out, at);
-        m += 1;
+impl Lines for GrowthLines<'_> {
+    ghost count = { λ s. s.growth.now.labels };
+
+    ghost line = { λ s m. growth_line s.policy.now s.growth.now m };
+
+    fn count(&self) -> usize {
+        self.growth.labels
     }
-    at
+
+    #[tactic(auto, using(crate::proofs::Room::line_length))]
+    fn put_line(&self, m: usize, out: &mut [u8], at: usize) -> usize {
+        let room = format::read_number(self.policy, 12 * m + 10) < 65535;
+        let cost = self.growth.costs[m];
+        let ceiling = self.growth.ceilings[m];
+        let behind = line_parts::put_name(self.policy, m, out, at);
+        let end = put_figures(out, behind, room, cost, ceiling);
+        buffers::put_bytes(out, end, b"\n")
+    }
 }
 
 // Writes the text of an accepted policy file from the buffer's start on, or nothing if it has no room for it.
@@ -59,6 +63,10 @@ pub fn growth_text(policy: &[u8], out: &mut [u8]) -> Written
         return buffers::refuse(growth.refusal);
     }
     let mut text = [0u8; 1024];
-    let length = put_lines(policy, growth, &mut text);
+    let lines = GrowthLines {
+        policy,
+        growth: &growth,
+    };
+    let length = listings::put_lines(&lines, &mut text, 0);
     buffers::hand_out(&text[..length], out)
 }

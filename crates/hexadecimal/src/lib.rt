@@ -16,6 +16,7 @@ fn hex_digit(d: u8) -> u8
 }
 
 // A byte as two hexadecimal digits.
+#[tactic(auto, unfolding(crate::specs::Hex::hex_byte))]
 fn hex_byte(byte: u8) -> [u8; 2]
     ensures { result ≡ hex_byte byte }
 {
@@ -30,14 +31,8 @@ pub fn hex(bytes: &[u8], out: &mut [u8]) -> Written
         return buffers::refuse(16);
     }
     let mut at = 0;
-    let mut i = 0;
-    while i < bytes.len() {
-        at = buffers::put_bytes(out, at, &hex_byte(bytes[i]));
-        i += 1;
+    for byte in bytes {
+        at = buffers::put_bytes(out, at, &hex_byte(*byte));
     }
-    Written {
-        refusal: 0,
-        zeros: [0u8; 7],
-        length: at,
-    }
+    buffers::wrote(at)
 }

@@ -1,3 +1,2 @@
-pub mod Masked
 pub mod Laws
 pub mod Secrets

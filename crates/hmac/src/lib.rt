@@ -20,30 +20,30 @@ fn zero_filled(bytes: &[u8]) -> [u8; 64]
 }
 
 // The key as a block, K0.
+#[tactic(auto, unfolding(crate::specs::Hmac::key_block))]
 fn key_block(key: &[u8]) -> [u8; 64]
     ensures { result ≡ key_block key.now }
 {
     if key.len() <= 64 {
-        return zero_filled(key);
+        zero_filled(key)
+    } else {
+        zero_filled(&sha256::hash_bytes(key))
     }
-    let hashed = sha256::hash_bytes(key);
-    zero_filled(&hashed)
 }
 
-// A block with each byte exclusive-ored with `pad`.
-fn mask(block: [u8; 64], pad: u8) -> [u8; 64]
+// A block with each byte exclusive-ored with `pad`. It stays a loop: with `block.map(|x| x ^ pad)` an HMAC takes a fifth more time.
+#[tactic(auto, unfolding(crate::specs::Hmac::masked))]
+fn mask(mut block: [u8; 64], pad: u8) -> [u8; 64]
     ensures { result ≡ masked pad block }
 {
-    let mut out = [0u8; 64];
-    let mut i = 0;
-    while i < 64 {
-        out[i] = block[i] ^ pad;
-        i += 1;
+    for byte in &mut block {
+        *byte ^= pad;
     }
-    out
+    block
 }
 
 // HMAC of a message of any length.
+#[tactic(auto, unfolding(crate::specs::Hmac::hmac))]
 pub fn hmac_bytes(key: &[u8], message: &[u8]) -> [u8; 32]
     ensures { result ≡ hmac key.now message.now }
 {
@@ -53,6 +53,7 @@ pub fn hmac_bytes(key: &[u8], message: &[u8]) -> [u8; 32]
 }
 
 // F: HMAC of an 8-byte name under a 32-byte secret.
+#[tactic(auto, unfolding(crate::specs::Secrets::F))]
 fn prf(secret: [u8; 32], name: [u8; 8]) -> [u8; 32]
     ensures { result ≡ F secret name }
 {
@@ -60,6 +61,7 @@ fn prf(secret: [u8; 32], name: [u8; 8]) -> [u8; 32]
 }
 
 // The secret of the child `name`, from its parent's.
+#[tactic(auto, unfolding(crate::specs::Secrets::child_secret))]
 pub fn child_secret(parent: [u8; 32], name: [u8; 8]) -> [u8; 32]
     ensures { result ≡ child_secret parent name }
 {
@@ -67,20 +69,19 @@ pub fn child_secret(parent: [u8; 32], name: [u8; 8]) -> [u8; 32]
 }
 
 // The key of the label `name`, from its own secret.
+#[tactic(auto, unfolding(crate::specs::Secrets::label_key))]
 pub fn label_key(secret: [u8; 32], name: [u8; 8]) -> [u8; 32]
     ensures { result ≡ label_key secret name }
 {
     prf(secret, name)
 }
 
-// HMAC of a key and a message of at most 65,536 bytes each; longer ones are refused.
+// HMAC of a key and a message of at most LIMIT bytes each; longer ones are refused.
+#[tactic(auto, unfolding(crate::specs::HmacAnswer::hmac_of))]
 pub fn hmac_sha256(key: &[u8], message: &[u8]) -> Digest
     ensures { result ≡ hmac_of key.now message.now }
 {
-    if 65536 < key.len() {
-        return sha256::too_long();
-    }
-    if 65536 < message.len() {
+    if sha256::LIMIT < key.len() || sha256::LIMIT < message.len() {
         return sha256::too_long();
     }
     Digest {

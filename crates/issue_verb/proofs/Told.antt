@@ -1,30 +1,16 @@
 -- What a call of `issue` tells, by what was issued and what was saved.
 use Prim.Native.Nat.{ℕ}
-use mathlib.Core.Bool.{Bool, true, false, cond}
+use mathlib.Core.Bool.{Bool}
 use mathlib.Core.List.{List, []}
-use mathlib.Core.Path.{◌≡◌, refl, sym, ap, ◌∙◌}
-use lib.ListN.{length, take}
+use mathlib.Core.Path.{◌≡◌, sym, ap}
+use lib.ListN.{length}
 use Rattle.buffers.specs.declared.Written.{Written}
 use Rattle.fingerprint.specs.Fingerprint.{fingerprint_of}
 use Rattle.issuer_answers.specs.Issue.{issued_of}
-use Rattle.outcomes.proofs.Ending.{not_both, said_as}
 use Rattle.lines.specs.Lines.{issued_text}
-use Rattle.new_file.specs.declared.Saved.{Saved}
-use Rattle.outcomes.proofs.Ending.{ends_answered, ends_as}
+use Rattle.outcomes.proofs.Ending.{said_as, ends_answered, ends_as}
 use Rattle.outcomes.specs.Status.{Said, Ends}
 use Rattle.outcomes.specs.declared.Ended.{Ended}
-
--- where a call ends well only if all was saved, what is said is the length of all that was to be saved
-module _ (size : ℕ) (print : List ℕ) (option : Bool) (saved : Saved) (e : Ended) where
-  pub told_whole : saved.length ≡ cond saved.ok size 0 → (e.ok ≡ saved.ok)
-      → Said 0 (issued_text saved.length print option) e → Said 0 (issued_text size print option) e
-  told_whole counts done said ok = go saved.ok refl
-    where
-      go : (b : Bool) → saved.ok ≡ b → (e.refusal ≡ 0) × (take e.length e.text ≡ issued_text size print option)
-      go false o = not_both (done ∙ o) ok
-      go true o =
-          let whole : saved.length ≡ size = counts ∙ ap (λ (b : Bool). cond b size 0) o in
-          said_as 0 e (ap (λ (n : ℕ). issued_text n print option) whole) said ok
 
 -- by what `issue` answered, for a buffer of 4,096 bytes
 module _ (policy name : List ℕ) (account : ℕ) (root : List ℕ) (option : Bool) (w : Written) (e : Ended)

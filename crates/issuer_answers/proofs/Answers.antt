@@ -1,4 +1,5 @@
 -- What `issuer_key` and `issue` answer, test by test and row by row.
+use Rattle.std.specs.Prelude.{None, Option, Some}
 use Prim.Native.Nat.{ℕ, ◌≤◌, ◌<◌}
 use mathlib.Core.Bool.{Bool, true, false, cond}
 use mathlib.Core.List.{List}
@@ -10,8 +11,6 @@ use lib.Dec.{eqb, ltb}
 use lib.ListN.{length}
 use Rattle.buffers.specs.Handed.{wrote, refused_written, handed_into}
 use Rattle.buffers.specs.declared.Written.{Written}
-use Rattle.format.specs.declared.Found.TheVariants.{At, Nothing}
-use Rattle.format.specs.declared.Found.{Found}
 use Rattle.policy_file.specs.File.{count_of}
 use Rattle.policy_file.specs.Whole.{policy_refusal, label_count, AcceptedPolicy}
 use Rattle.issuer_answers.specs.Keys.{label_key_of, label_asked, refused_key, key_at, issuer_key_of}
@@ -37,19 +36,19 @@ module _ (policy name root : List ℕ) where
   unfolding issuer_key_of
   key_policy ne = rw (ne_eqb (policy_refusal policy) 0 ne)
 
-  pub key_asked : AcceptedPolicy policy → {f : Found} → label_asked policy (label_count policy) name ≡ f → issuer_key_of policy name root ≡ key_at policy root f
+  pub key_asked : AcceptedPolicy policy → {f : Option ℕ} → label_asked policy (label_count policy) name ≡ f → issuer_key_of policy name root ≡ key_at policy root f
   unfolding issuer_key_of
   key_asked ok e = rw (eq-eqb (policy_refusal policy) 0 ok, e)
 
-  pub key_13 : key_at policy root Nothing ≡ refused_key 13
+  pub key_13 : key_at policy root None ≡ refused_key 13
   unfolding key_at
   key_13 = refl
 
-  pub key_15 : (l : ℕ) → length root ≢ 32 → key_at policy root (At l) ≡ refused_key 15
+  pub key_15 : (l : ℕ) → length root ≢ 32 → key_at policy root (Some l) ≡ refused_key 15
   unfolding key_at
   key_15 l ne = rw (ne_eqb (length root) 32 ne)
 
-  pub key_given : (l : ℕ) → length root ≡ 32 → key_at policy root (At l) ≡ record { refusal = 0; key = label_key_of policy root l }
+  pub key_given : (l : ℕ) → length root ≡ 32 → key_at policy root (Some l) ≡ record { refusal = 0; key = label_key_of policy root l }
   unfolding key_at
   key_given l e = rw (eq-eqb (length root) 32 e)
 

@@ -1,4 +1,5 @@
 -- The label asked for: found exactly when one has the name.
+use Rattle.std.specs.Prelude.{None, Option, Some}
 use Prim.Native.Nat.{ℕ, ◌<◌}
 use mathlib.Core.Bool.{Bool, true, false}
 use mathlib.Core.List.{List}
@@ -10,8 +11,6 @@ use lib.Dec.{eqb}
 use lib.ListN.{length}
 use lib.Seq.{take_all}
 use Rattle.format.specs.Bytes.{bytes_at}
-use Rattle.format.specs.declared.Found.TheVariants.{At, Nothing}
-use Rattle.format.specs.declared.Found.{Found}
 use Rattle.policy_file.proofs.Names.{name_at, name_none, name_found_lem, name_new}
 use Rattle.policy_file.proofs.Lawful.{lawful, name_length}
 use Rattle.policy_file.specs.File.{label_named}
@@ -25,7 +24,7 @@ module _ (policy name : List ℕ) where
   unfolding label_asked
   asked_eight labels e = rw (eq-eqb (length name) 8 e)
 
-  pub asked_other : (labels : ℕ) → length name ≢ 8 → label_asked policy labels name ≡ Nothing
+  pub asked_other : (labels : ℕ) → length name ≢ 8 → label_asked policy labels name ≡ None
   unfolding label_asked
   asked_other labels ne = rw (ne_eqb (length name) 8 ne)
 
@@ -41,7 +40,7 @@ module _ (policy name : List ℕ) where
   asked_read labels e r = ap (label_named policy labels) (r ∙ take_all 8 name (omega arith)) ∙ sym (asked_eight labels e)
 
   -- a label that is found is one of the labels
-  pub asked_below : (labels l : ℕ) → label_asked policy labels name ≡ At l → l < labels
+  pub asked_below : (labels l : ℕ) → label_asked policy labels name ≡ Some l → l < labels
   asked_below labels l e = go eight_or_other
     where
       go : (length name ≡ 8) ⊎ (length name ≢ 8) → l < labels
@@ -50,15 +49,15 @@ module _ (policy name : List ℕ) where
 
   module _ (ok : AcceptedPolicy policy) where
     -- names are distinct, so the label found is the one that has the name
-    pub asked_label : {l : ℕ} → LabelOf policy name l → label_asked policy (label_count policy) name ≡ At l
+    pub asked_label : {l : ℕ} → LabelOf policy name l → label_asked policy (label_count policy) name ≡ Some l
     asked_label {l} h =
         let eight : length name ≡ 8 = ap length (sym h.named) ∙ name_length policy ok l h.label in
         let f = name_found_lem policy name (label_count policy) l h.label h.named in
         let at = name_at policy name (label_count policy) f.0 f.1 in
         let same : f.0 ≡ l = (lawful policy ok).distinct f.0 l at.below h.label (at.here ∙ sym h.named) in
-        asked_eight (label_count policy) eight ∙ f.1 ∙ ap At same
+        asked_eight (label_count policy) eight ∙ f.1 ∙ ap Some same
 
-    pub asked_none : NoLabel policy name → label_asked policy (label_count policy) name ≡ Nothing
+    pub asked_none : NoLabel policy name → label_asked policy (label_count policy) name ≡ None
     asked_none (other_length ne) = asked_other (label_count policy) ne
     asked_none (not_there e none) = asked_eight (label_count policy) e ∙ name_new policy name (label_count policy) none
 
@@ -66,11 +65,11 @@ module _ (policy name : List ℕ) where
     pub asked_either : ((l : ℕ) × LabelOf policy name l) ⊎ NoLabel policy name
     asked_either = go eight_or_other
       where
-        search_says : length name ≡ 8 → (f : Found) → label_named policy (label_count policy) name ≡ f → ((l : ℕ) × LabelOf policy name l) ⊎ NoLabel policy name
-        search_says e (At l) h =
+        search_says : length name ≡ 8 → (f : Option ℕ) → label_named policy (label_count policy) name ≡ f → ((l : ℕ) × LabelOf policy name l) ⊎ NoLabel policy name
+        search_says e (Some l) h =
             let at = name_at policy name (label_count policy) l h in
             inl (l, record { accepted = ok; label = at.below; named = at.here })
-        search_says e Nothing h = inr (not_there e (name_none policy name (label_count policy) h))
+        search_says e None h = inr (not_there e (name_none policy name (label_count policy) h))
 
         go : (length name ≡ 8) ⊎ (length name ≢ 8) → ((l : ℕ) × LabelOf policy name l) ⊎ NoLabel policy name
         go (inl e) = search_says e (label_named policy (label_count policy) name) refl

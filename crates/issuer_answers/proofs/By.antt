@@ -1,4 +1,5 @@
 -- The envelope of an account at the label asked for, whatever decides under which number the account is refused there: the counts of a policy, or a roster.
+use Rattle.std.specs.Prelude.{None, Option, Some}
 use Prim.Native.Nat.{ℕ, ◌≤◌, ◌<◌}
 use mathlib.Core.List.{List}
 use mathlib.Core.Logic.{◌≢◌}
@@ -9,8 +10,6 @@ use lib.ListN.{length}
 use Rattle.buffers.proofs.Handed.{handed_none, left_none, room_handed, unless_none, unless_refused, unless_into, unless_left}
 use Rattle.buffers.specs.Handed.{wrote, refused_written, handed, handed_into}
 use Rattle.buffers.specs.declared.Written.{Written}
-use Rattle.format.specs.declared.Found.TheVariants.{At, Nothing}
-use Rattle.format.specs.declared.Found.{Found}
 use Rattle.policy_file.specs.Whole.{policy_refusal, label_count, AcceptedPolicy}
 use Rattle.issuer_answers.specs.Issue.{account_envelope, asked_refusal, refusal_by, asked_envelope, issued_by, left_by}
 use Rattle.issuer_answers.specs.Keys.{label_asked}
@@ -18,7 +17,7 @@ use Rattle.issuer_answers.specs.Rows.{NoLabel, LabelOf}
 use Rattle.issuer_answers.proofs.Asked.{asked_label, asked_none}
 
 -- label l found: the envelope asked for is that of its account
-pub envelope_at : (policy name : List ℕ) (account : ℕ) (root : List ℕ) {l : ℕ} → label_asked policy (label_count policy) name ≡ At l
+pub envelope_at : (policy name : List ℕ) (account : ℕ) (root : List ℕ) {l : ℕ} → label_asked policy (label_count policy) name ≡ Some l
     → asked_envelope policy name account root ≡ account_envelope policy root l account
 unfolding asked_envelope
 envelope_at policy name account root e = rw (e, asked_envelope)
@@ -35,15 +34,15 @@ module _ (policy name : List ℕ) (account : ℕ) (root : List ℕ) (number : �
   unfolding refusal_by
   refusal_policy ne = rw (ne_eqb (policy_refusal policy) 0 ne)
 
-  refusal_asked : AcceptedPolicy policy → {f : Found} → label_asked policy (label_count policy) name ≡ f → refusal ≡ asked_refusal number f
+  refusal_asked : AcceptedPolicy policy → {f : Option ℕ} → label_asked policy (label_count policy) name ≡ f → refusal ≡ asked_refusal number f
   unfolding refusal_by
   refusal_asked ok e = rw (eq-eqb (policy_refusal policy) 0 ok, e)
 
-  refusal_13 : asked_refusal number Nothing ≡ 13
+  refusal_13 : asked_refusal number None ≡ 13
   unfolding asked_refusal
   refusal_13 = refl
 
-  refusal_at : (l : ℕ) → asked_refusal number (At l) ≡ number l
+  refusal_at : (l : ℕ) → asked_refusal number (Some l) ≡ number l
   unfolding asked_refusal
   refusal_at l = refl
 
@@ -79,14 +78,14 @@ module _ (policy name : List ℕ) (account : ℕ) (root : List ℕ) (number : �
   by_policy bad = refuses bad (refusal_policy (λ e. omega arith))
 
   -- no label found
-  pub by_asked_13 : AcceptedPolicy policy → label_asked policy (label_count policy) name ≡ Nothing → Refuses 13
+  pub by_asked_13 : AcceptedPolicy policy → label_asked policy (label_count policy) name ≡ None → Refuses 13
   by_asked_13 ok e = refuses (omega arith) (refusal_asked ok e ∙ refusal_13)
 
   pub by_13 : AcceptedPolicy policy → NoLabel policy name → Refuses 13
   by_13 ok none = by_asked_13 ok (asked_none policy name ok none)
 
   -- label l found: its account and the root secret are refused under a number, or the envelope is handed out
-  module _ {l : ℕ} (ok : AcceptedPolicy policy) (at : label_asked policy (label_count policy) name ≡ At l) where
+  module _ {l : ℕ} (ok : AcceptedPolicy policy) (at : label_asked policy (label_count policy) name ≡ Some l) where
     number_at : refusal ≡ number l
     number_at = refusal_asked ok at ∙ refusal_at l
 
@@ -109,7 +108,7 @@ module _ (policy name : List ℕ) (account : ℕ) (root : List ℕ) (number : �
 
   -- label l has the name asked for, and its number there is known
   module _ {l : ℕ} (h : LabelOf policy name l) where
-    found : label_asked policy (label_count policy) name ≡ At l
+    found : label_asked policy (label_count policy) name ≡ Some l
     found = asked_label policy name h.accepted h
 
     pub by_number : {n : ℕ} → number l ≡ n → 0 < n → Refuses n

@@ -1,4 +1,5 @@
 -- Keys and envelopes follow from the policy's first 2,828 bytes, and from the first 33 bytes of the root secret: a longer one is refused.
+use Rattle.std.specs.Prelude.{None, Option, Some}
 use Prim.Native.Nat.{ℕ, zero, suc, ◌≤◌, ◌<◌}
 use mathlib.Core.Bool.{Bool, cond}
 use mathlib.Core.List.{List, ◌++◌}
@@ -12,8 +13,6 @@ use Rattle.buffers.specs.Handed.{written_unless, buffer_unless}
 use Rattle.envelopes.specs.Envelope.{record_of, records_below, envelope_of}
 use Rattle.envelopes.specs.Secrets.{secret_from, secret_of, key_of}
 use Rattle.format.proofs.Bytes.{fronted}
-use Rattle.format.specs.declared.Found.TheVariants.{At, Nothing}
-use Rattle.format.specs.declared.Found.{Found}
 use Rattle.plan_answers.proofs.Front.{test_same, agree_plan}
 use Rattle.plan_answers.proofs.WorkedTables.{table_rowed}
 use Rattle.plan_answers.specs.Planned.{at_or_below, planned, plan_of}
@@ -69,7 +68,7 @@ module _ (a b : List ℕ) (agree : Agree a b) where
   unfolding label_asked
   asked_same name =
       ap (λ (s : Policy). label_asked a s.labels name) agree.verdict
-      ∙ ap (λ (f : Found). cond (eqb (length name) 8) f Nothing) (agree_named a b agree (label_count b) name (bounds b).0)
+      ∙ ap (λ (f : Option ℕ). cond (eqb (length name) 8) f None) (agree_named a b agree (label_count b) name (bounds b).0)
 
   -- what is answered of a label found
   module _ (root : List ℕ) (l : ℕ) (label : l < label_count b) where
@@ -95,35 +94,35 @@ module _ (a b : List ℕ) (agree : Agree a b) where
 
   -- what is answered to a name
   module _ (name root : List ℕ) where
-    key_at_same : (f : Found) → label_asked b (label_count b) name ≡ f → key_at a root f ≡ key_at b root f
+    key_at_same : (f : Option ℕ) → label_asked b (label_count b) name ≡ f → key_at a root f ≡ key_at b root f
     unfolding key_at
-    key_at_same (At l) e = rw (label_key_same root l (asked_below b name (label_count b) l e))
-    key_at_same Nothing e = refl
+    key_at_same (Some l) e = rw (label_key_same root l (asked_below b name (label_count b) l e))
+    key_at_same None e = refl
 
     pub agree_key : issuer_key_of a name root ≡ issuer_key_of b name root
     unfolding issuer_key_of
     agree_key =
-        ap₂ (λ (s : Policy) (f : Found). cond (eqb s.refusal 0) (key_at a root f) (refused_key s.refusal)) agree.verdict (asked_same name)
+        ap₂ (λ (s : Policy) (f : Option ℕ). cond (eqb s.refusal 0) (key_at a root f) (refused_key s.refusal)) agree.verdict (asked_same name)
         ∙ rw (key_at_same (label_asked b (label_count b) name) refl)
 
     module _ (account : ℕ) where
-      asked_number_same : (f : Found) → label_asked b (label_count b) name ≡ f → asked_refusal (account_refusal a root account) f ≡ asked_refusal (account_refusal b root account) f
+      asked_number_same : (f : Option ℕ) → label_asked b (label_count b) name ≡ f → asked_refusal (account_refusal a root account) f ≡ asked_refusal (account_refusal b root account) f
       unfolding asked_refusal
-      asked_number_same (At l) e = account_same root l (asked_below b name (label_count b) l e) account
-      asked_number_same Nothing e = refl
+      asked_number_same (Some l) e = account_same root l (asked_below b name (label_count b) l e) account
+      asked_number_same None e = refl
 
       number_same : refusal_by a name (account_refusal a root account) ≡ refusal_by b name (account_refusal b root account)
       unfolding refusal_by
       number_same =
-          ap₂ (λ (s : Policy) (f : Found). cond (eqb s.refusal 0) (asked_refusal (account_refusal a root account) f) s.refusal) agree.verdict (asked_same name)
+          ap₂ (λ (s : Policy) (f : Option ℕ). cond (eqb s.refusal 0) (asked_refusal (account_refusal a root account) f) s.refusal) agree.verdict (asked_same name)
           ∙ rw (asked_number_same (label_asked b (label_count b) name) refl)
 
-      envelope_found_same : (f : Found) → label_asked b (label_count b) name ≡ f
+      envelope_found_same : (f : Option ℕ) → label_asked b (label_count b) name ≡ f
           → asked_envelope a name account root ≡ asked_envelope b name account root
       unfolding asked_envelope
-      envelope_found_same (At l) e =
+      envelope_found_same (Some l) e =
           rw (asked_same name, e, asked_envelope) (envelope_for_same root l (asked_below b name (label_count b) l e) account)
-      envelope_found_same Nothing e = rw (asked_same name, e, asked_envelope)
+      envelope_found_same None e = rw (asked_same name, e, asked_envelope)
 
       envelope_asked_same : asked_envelope a name account root ≡ asked_envelope b name account root
       envelope_asked_same = envelope_found_same (label_asked b (label_count b) name) refl

@@ -1,5 +1,6 @@
 -- "With a refusal every number in the answer is 0, .. a key .. is 32 zero bytes, and lent buffers are unchanged." Without one, the length
 -- answered lies within the buffer.
+use Rattle.std.specs.Prelude.{None, Option, Some}
 use Prim.Native.Nat.{ℕ, ◌≤◌, ◌<◌}
 use mathlib.Core.Bool.{Bool, true, false}
 use mathlib.Core.List.{List}
@@ -10,8 +11,6 @@ use lib.Dec.{eqb}
 use lib.ListN.{length}
 use Rattle.buffers.specs.Handed.{refused_written}
 use Rattle.buffers.specs.declared.Written.{Written}
-use Rattle.format.specs.declared.Found.TheVariants.{At, Nothing}
-use Rattle.format.specs.declared.Found.{Found}
 use Rattle.policy_file.specs.Whole.{policy_refusal, label_count}
 use Rattle.issuer_answers.specs.Keys.{label_asked, refused_key, key_at, issuer_key_of}
 use Rattle.issuer_answers.specs.Issue.{account_refusal, refusal_by, asked_envelope, issued_by, left_by, issued_of, envelope_after}
@@ -24,12 +23,12 @@ use Rattle.buffers.proofs.Unless.{unless_zeros, unless_unchanged, unless_within}
 abbrev KeyZeros : IssuerKey → Type 0
 KeyZeros k = 0 < k.refusal → k ≡ refused_key k.refusal
 
-at_zeros : (policy root : List ℕ) (f : Found) → KeyZeros (key_at policy root f)
+at_zeros : (policy root : List ℕ) (f : Option ℕ) → KeyZeros (key_at policy root f)
 unfolding key_at
-at_zeros policy root Nothing = λ h. refl
-at_zeros policy root (At l) = go (eqb (length root) 32) refl
+at_zeros policy root None = λ h. refl
+at_zeros policy root (Some l) = go (eqb (length root) 32) refl
   where
-    go : (b : Bool) → eqb (length root) 32 ≡ b → KeyZeros (key_at policy root (At l))
+    go : (b : Bool) → eqb (length root) 32 ≡ b → KeyZeros (key_at policy root (Some l))
     go true e = rw e (λ h. absurd (omega arith))
     go false e = rw e (λ h. refl)
 

@@ -1,10 +1,8 @@
 -- The envelope of an account of a policy, and what `issue` answers and leaves in the lent buffer.
-use Rattle.std.specs.Prelude.{ℕ, cond, List, [], eqb, ltb, length}
+use Rattle.std.specs.Prelude.{ℕ, cond, List, [], eqb, ltb, length, None, Option, Some}
 use Rattle.buffers.specs.Handed.{written_unless, buffer_unless}
 use Rattle.buffers.specs.declared.Written.{Written}
 use Rattle.envelopes.specs.Envelope.{envelope_of}
-use Rattle.format.specs.declared.Found.TheVariants.{At, Nothing}
-use Rattle.format.specs.declared.Found.{Found}
 use Rattle.plan_answers.specs.Planned.{at_or_below}
 use Rattle.policy_file.specs.File.{name_of, count_of}
 use Rattle.policy_file.specs.Whole.{policy_refusal, label_count}
@@ -23,9 +21,9 @@ account_refusal policy root account l =
     15))
 
 -- 13, "name asked for is not in the policy, or not 8 bytes"; `number l` is what an account is refused under at label l
-unfoldable pub asked_refusal : (number : ℕ → ℕ) → Found → ℕ
-asked_refusal number (At l) = number l
-asked_refusal number Nothing = 13
+unfoldable pub asked_refusal : (number : ℕ → ℕ) → Option ℕ → ℕ
+asked_refusal number (Some l) = number l
+asked_refusal number None = 13
 
 -- the refusals before the buffer's: the policy's own, then 13, then those of the account and the root secret
 unfoldable pub refusal_by : (policy name : List ℕ) (number : ℕ → ℕ) → ℕ
@@ -36,7 +34,7 @@ refusal_by policy name number =
 
 -- the envelope of an account at the label asked for; none if no label has the name
 unfoldable pub asked_envelope : (policy name : List ℕ) (account : ℕ) (root : List ℕ) → List ℕ
-asked_envelope policy name account root = elim (label_asked policy (label_count policy) name) [ At l ↦ account_envelope policy root l account | Nothing ↦ [] ]
+asked_envelope policy name account root = elim (label_asked policy (label_count policy) name) [ Some l ↦ account_envelope policy root l account | None ↦ [] ]
 
 -- what is answered, for a buffer of `room` bytes: the length of the envelope; 16, "buffer shorter than the envelope"
 unfoldable pub issued_by : (policy name : List ℕ) (account : ℕ) (root : List ℕ) (number : ℕ → ℕ) (room : ℕ) → Written

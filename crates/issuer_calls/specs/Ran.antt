@@ -8,7 +8,7 @@ use Rattle.issuer_answers.specs.Issue.{issued_of}
 use Rattle.issuer_answers.specs.Keys.{issuer_key_of}
 use Rattle.issuer_tables.specs.Calls.{verbs}
 use Rattle.lines.specs.Lines.{key_text, issued_text, fingerprint_line}
-use Rattle.outcomes.specs.Status.{Said, Ends}
+use Rattle.outcomes.specs.Status.{is_done, Said, Ends}
 use Rattle.outcomes.specs.declared.Ended.{Ended}
 use Rattle.plan_answers.specs.Weighing.{weigh_of}
 use Rattle.plan_texts.specs.Drawing.{dot_text}
@@ -53,11 +53,11 @@ pub data Performed (verb : ℕ) (e : Ended) : Type 0 where
   drew : verb ≡ 5 → RootEnds e → Performed verb e
   sealed : verb ≡ 6 → (option : Bool) → SealEnds option e → Performed verb e
   grown : verb ≡ 7 → GrowthEnds e → Performed verb e
-  undone : e.ok ≡ false → Performed verb e
+  undone : is_done e ≡ false → Performed verb e
 
 -- How a call ended: as the verb that some word says, with the help or the version, or as one that failed.
 pub data Ran (e : Ended) : Type 0 where
   performed : (word : List ℕ) → Performed (place_of (words_of verbs) word) e → Ran e
   helped : (text : List ℕ) → take 6 text ≡ bytes_of "usage:" → Said 0 text e → Ran e
   versioned : (version : List ℕ) → Said 0 (version_line (bytes_of "yendlowa") version) e → Ran e
-  failed : e.ok ≡ false → Ran e
+  failed : is_done e ≡ false → Ran e

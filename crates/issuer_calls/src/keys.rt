@@ -1,9 +1,9 @@
 // The arguments of `key`, `issue` and `root`. Wrong calls are told before any file is read or made.
-ghost use Rattle.std.specs.Prelude.{ℕ, false, ◌≡◌};
+ghost use Rattle.std.specs.Prelude.{ℕ, ◌≡◌};
+ghost use Rattle.outcomes.specs.declared.Ended.TheVariants.{Failed};
 ghost use Rattle.issuer_calls.specs.Ran.{KeyEnds, IssueEnds, RootEnds};
 
 use crate::reports;
-use command::Number;
 use outcomes::Ended;
 
 // `key [--fingerprint] POLICY NAME ROOT`
@@ -15,18 +15,11 @@ pub(crate) fn key(rt: HostRuntime, program: &[u8], option: bool) -> Ended
     let mut policy = io::buffer();
     let mut root = io::buffer();
     let read = files::read_both(rt, program, at, at + 2, &mut policy, &mut root);
+    let files = read.map(|(first, second)| (&policy[..first], &root[..second]));
     let mut name = io::buffer();
-    let name_length = arguments::name_argument(rt, at + 1, &mut name);
-    let policy_length = read.first;
-    let root_length = read.second;
-    let ended = key_verb::key(
-        read.ok,
-        &policy[..policy_length],
-        &name[..name_length],
-        &root[..root_length],
-        option,
-    );
-    reports::of_key(rt, program, &policy[..policy_length], option, ended)
+    let length = arguments::name_argument(rt, at + 1, &mut name);
+    let ended = key_verb::key(files, &name[..length], option);
+    reports::of_key(rt, program, files, option, ended)
 }
 
 // `issue`, for the account number that was read
@@ -35,38 +28,35 @@ fn issue_to(rt: HostRuntime, program: &[u8], option: bool, account: u32) -> Ende
 {
     let at = reports::first_argument(option);
     if new_file::is_no_file(rt, program, at + 4) {
-        return outcomes::failed();
+        return Ended::Failed;
     }
     // As for `key` (`buffer_front`, `buffer_root_front`, crate issuer_answers).
     let mut policy = io::buffer();
     let mut root = io::buffer();
     let read = files::read_both(rt, program, at, at + 3, &mut policy, &mut root);
+    let files = read.map(|(first, second)| (&policy[..first], &root[..second]));
     let mut name = io::buffer();
     let name_length = arguments::name_argument(rt, at + 1, &mut name);
     let mut out = io::buffer();
     let out_length = arguments::argument(rt, at + 4, &mut out);
-    let policy_length = read.first;
-    let root_length = read.second;
     let printed = issue_verb::issue(
         rt,
         program,
-        read.ok,
-        &policy[..policy_length],
+        files,
         &name[..name_length],
         account,
-        &root[..root_length],
         option,
         &out[..out_length],
     );
-    reports::of_issue(rt, program, &policy[..policy_length], option, printed)
+    reports::of_issue(rt, program, files, option, printed)
 }
 
 // Tells an ACCOUNT that is not a number.
 fn no_number(rt: HostRuntime, program: &[u8], typed: &[u8]) -> Ended
-    ensures { result.ok ≡ false }
+    ensures { result ≡ Failed }
 {
     messages::tell_value(rt, program, b"ACCOUNT ", typed, b" is not a number");
-    outcomes::failed()
+    Ended::Failed
 }
 
 // `issue [--fingerprint] POLICY NAME ACCOUNT ROOT OUT`
@@ -81,8 +71,8 @@ pub(crate) fn issue(rt: HostRuntime, program: &[u8], option: bool) -> Ended
         return no_number(rt, program, &typed[..length]);
     }
     match command::read_account(&typed[..length]) {
-        Number::Is(account) => issue_to(rt, program, option, account),
-        Number::Not => no_number(rt, program, &typed[..length]),
+        Some(account) => issue_to(rt, program, option, account),
+        None => no_number(rt, program, &typed[..length]),
     }
 }
 
@@ -91,7 +81,7 @@ pub(crate) fn root(rt: HostRuntime, program: &[u8]) -> Ended
     ensures { RootEnds result }
 {
     if new_file::is_no_file(rt, program, 2) {
-        return outcomes::failed();
+        return Ended::Failed;
     }
     let mut out = io::buffer();
     let length = arguments::argument(rt, 2, &mut out);

@@ -8,6 +8,7 @@ mod usage;
 
 ghost use Rattle.std.specs.Prelude.{false, ◌≡◌};
 ghost use Rattle.decimals.specs.Text.{bytes_of};
+ghost use Rattle.outcomes.specs.Status.{is_done};
 ghost use Rattle.verbs.specs.Tables.{takes_call, words_of};
 ghost use Rattle.verbs.specs.Verbs.{place_of};
 ghost use Rattle.issuer_tables.specs.Calls.{verbs};
@@ -34,7 +35,7 @@ fn perform(rt: HostRuntime, program: &[u8], verb: usize, count: usize, option: b
         5 => keys::root(rt, program),
         6 => seal_call::seal(rt, program, reports::first_argument(option), option),
         7 => plan_calls::growth(rt, program, count == 3),
-        _ => outcomes::failed(),
+        _ => Ended::Failed,
     }
 }
 
@@ -50,18 +51,18 @@ fn without(count: usize, option: bool) -> usize {
 // A call whose first argument is this word. With an unknown or misplaced option, or a wrong number of arguments, it fails before anything is read
 // or made.
 fn call(rt: HostRuntime, program: &[u8], word: &[u8], count: usize, option: bool) -> Ended
-    ensures ok_value { takes_call verbs word.now count ≡ false → result.ok ≡ false }
+    ensures ok_value { takes_call verbs word.now count ≡ false → is_done result ≡ false }
     ensures performed { Performed (place_of (words_of verbs) word.now) result }
 {
     let verb = verbs::find(issuer_tables::words(), word);
     if usage::tell_option(rt, program, verb, reports::first_argument(option)) {
-        return outcomes::failed();
+        return Ended::Failed;
     }
     if verbs::takes(issuer_tables::least(), issuer_tables::most(), verb, count) {
         return perform(rt, program, verb, count, option);
     }
     usage::tell_wrong(rt, program, verb, word);
-    outcomes::failed()
+    Ended::Failed
 }
 
 // A call whose first argument is this word: for help, for the version or with a verb.

@@ -5,12 +5,17 @@ ghost use Rattle.outcomes.specs.Status.{Printed};
 use outcomes::Ended;
 
 // Reports a call over a policy; the argument after the verb names it, if there is one.
-pub(crate) fn of_policy(rt: HostRuntime, program: &[u8], policy: &[u8], ended: Ended) -> Ended
+pub(crate) fn of_policy(
+    rt: HostRuntime,
+    program: &[u8],
+    policy: Option<&[u8]>,
+    ended: Ended,
+) -> Ended
     ensures { Printed ended result }
 {
     let printed = answers::print(rt, program, ended);
-    if printed.ok && printed.refusal != 0 {
-        policy_messages::tell_policy(rt, program, 2, policy, printed.refusal);
+    if let (Ended::Refused(number), Some(policy)) = (printed, policy) {
+        policy_messages::tell_policy(rt, program, 2, policy, number);
     }
     printed
 }
@@ -19,15 +24,14 @@ pub(crate) fn of_policy(rt: HostRuntime, program: &[u8], policy: &[u8], ended: E
 pub(crate) fn of_tree(
     rt: HostRuntime,
     program: &[u8],
-    policy: &[u8],
-    tree: &[u8],
+    files: Option<(&[u8], &[u8])>,
     ended: Ended,
 ) -> Ended
     ensures { Printed ended result }
 {
     let printed = answers::print(rt, program, ended);
-    if printed.ok && printed.refusal != 0 {
-        policy_messages::tell_tree(rt, program, 2, 3, policy, tree, printed.refusal);
+    if let (Ended::Refused(number), Some((policy, tree))) = (printed, files) {
+        policy_messages::tell_tree(rt, program, 2, 3, policy, tree, number);
     }
     printed
 }
@@ -53,17 +57,17 @@ fn key_argument(number: u8, at: usize) -> usize
 pub(crate) fn of_key(
     rt: HostRuntime,
     program: &[u8],
-    policy: &[u8],
+    files: Option<(&[u8], &[u8])>,
     option: bool,
     ended: Ended,
 ) -> Ended
     ensures { Printed ended result }
 {
     let printed = answers::print(rt, program, ended);
-    if printed.ok && printed.refusal != 0 {
+    if let (Ended::Refused(number), Some((policy, _))) = (printed, files) {
         let at = first_argument(option);
-        let argument = key_argument(printed.refusal, at);
-        policy_messages::tell_asked(rt, program, at, argument, policy, printed.refusal);
+        let argument = key_argument(number, at);
+        policy_messages::tell_asked(rt, program, at, argument, policy, number);
     }
     printed
 }
@@ -83,16 +87,16 @@ fn issue_argument(number: u8, at: usize) -> usize
 pub(crate) fn of_issue(
     rt: HostRuntime,
     program: &[u8],
-    policy: &[u8],
+    files: Option<(&[u8], &[u8])>,
     option: bool,
     printed: Ended,
 ) -> Ended
     ensures { result ≡ printed }
 {
-    if printed.ok && printed.refusal != 0 {
+    if let (Ended::Refused(number), Some((policy, _))) = (printed, files) {
         let at = first_argument(option);
-        let argument = issue_argument(printed.refusal, at);
-        policy_messages::tell_asked(rt, program, at, argument, policy, printed.refusal);
+        let argument = issue_argument(number, at);
+        policy_messages::tell_asked(rt, program, at, argument, policy, number);
     }
     printed
 }

@@ -20,7 +20,7 @@ pub(crate) fn tell_none(rt: HostRuntime, program: &[u8]) -> Ended
     ensures { Ran result }
 {
     messages::no_verb(rt, program);
-    outcomes::failed()
+    Ended::Failed
 }
 
 // Ends a line by how to call a verb.
@@ -34,8 +34,10 @@ fn tell_synopsis(rt: HostRuntime, verb: usize)
 
 // Whether one of a verb's arguments, which start at `first`, looks like an option; it is then told.
 pub(crate) fn tell_option(rt: HostRuntime, program: &[u8], verb: usize, first: usize) -> bool {
-    let i = arguments::find_option(rt, first);
-    if 15 < verb || arguments::count(rt) <= i {
+    let Some(i) = arguments::find_option(rt, first) else {
+        return false;
+    };
+    if 15 < verb {
         return false;
     }
     arguments::open_about(rt, program, i);

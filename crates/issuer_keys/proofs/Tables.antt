@@ -1,4 +1,5 @@
 -- The plan's answer as the functions have it: its numbers, and the parents that the labels hang from.
+use Rattle.std.specs.Prelude.{Option, Some}
 use Prim.Native.Nat.{ℕ, ◌+◌, ◌*◌, ◌≤◌, ◌<◌}
 use mathlib.Core.List.{List}
 use mathlib.Core.Path.{◌≡◌, sym, ap, ap₂, subst, ◌∙◌}
@@ -7,8 +8,6 @@ use lib.ListN.{length}
 use lib.Seq.{take_all}
 use Rattle.envelopes.specs.Secrets.{key_of}
 use Rattle.format.specs.Bytes.{bytes_at}
-use Rattle.format.specs.declared.Found.TheVariants.{At}
-use Rattle.format.specs.declared.Found.{Found}
 use Rattle.hmac.specs.Secrets.{label_key}
 use Rattle.plan_answers.proofs.PlanAnswer.{plan_answer_tree}
 use Rattle.plan_answers.proofs.PolicyOrder.{policy_order}
@@ -63,18 +62,18 @@ module _ (policy : List ℕ) where
     plan_hung e = subst (λ (p : Plan). Hung policy p.parents p.labels) (sym same) (hung (plan_accepted e))
 
     -- the label asked for, once it is looked for
-    module _ (name : List ℕ) {found : Found} (asked : found ≡ label_asked policy plan.labels name) where
-      pub asked_told : {f : Found} → found ≡ f → label_asked policy (label_count policy) name ≡ f
+    module _ (name : List ℕ) {found : Option ℕ} (asked : found ≡ label_asked policy plan.labels name) where
+      pub asked_told : {f : Option ℕ} → found ≡ f → label_asked policy (label_count policy) name ≡ f
       asked_told told = ap (λ (n : ℕ). label_asked policy n name) (sym plan_labels) ∙ sym asked ∙ told
 
-      pub told_below : {l : ℕ} → found ≡ At l → l < plan.labels
+      pub told_below : {l : ℕ} → found ≡ Some l → l < plan.labels
       told_below {l} told = asked_below policy name plan.labels l (sym asked ∙ told)
 
       -- its record lies within the file, and the labels up to it hang
-      pub told_within : {l : ℕ} → found ≡ At l → 12 * l + 12 ≤ length policy
+      pub told_within : {l : ℕ} → found ≡ Some l → 12 * l + 12 ≤ length policy
       told_within told = omega (arith, told_below told, plan_within)
 
-      pub told_hung : {l : ℕ} → plan.refusal ≡ 0 → found ≡ At l → Hung policy plan.parents (l + 1)
+      pub told_hung : {l : ℕ} → plan.refusal ≡ 0 → found ≡ Some l → Hung policy plan.parents (l + 1)
       told_hung {l} e told = hung_fewer (plan_hung e) (l + 1) (omega (arith, told_below told))
 
     -- the root secret as it is read, and a label's key as it is made

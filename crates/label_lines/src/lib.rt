@@ -22,10 +22,8 @@ fn put_names(out: &mut [u8], start: usize, names: [u8; 512], labels: usize) -> u
     ensures { Put out.old out.new start (name_lines names labels) result }
 {
     let mut at = start;
-    let mut k = 0;
-    while k < labels {
+    for k in 0..labels {
         at = put_name(out, at, names, k);
-        k += 1;
     }
     at
 }
@@ -35,6 +33,6 @@ pub fn put_labels(out: &mut [u8], account: u16, names: [u8; 512], labels: usize)
     requires { (labels ≤ 64) × (640 ≤ length out.old) }
     ensures { Put out.old out.new 0 (labels_text account names labels) result }
 {
-    let start = decimals::put_worded(out, 0, b"ACCOUNT", account as u32);
+    let start = decimals::put_worded(out, 0, b"ACCOUNT", u32::from(account));
     put_names(out, start, names, labels)
 }

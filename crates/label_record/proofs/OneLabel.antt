@@ -1,4 +1,5 @@
 -- Laws of the next label: the comparison with a name that is read, and its kind by the tests that led there.
+use Rattle.std.specs.Prelude.{None, Some}
 use Prim.Native.Nat.{ℕ, ◌+◌, ◌*◌, ◌≤◌, ◌<◌}
 use mathlib.Core.Bool.{true, false}
 use mathlib.Core.List.{List}
@@ -6,7 +7,6 @@ use mathlib.Core.Path.{◌≡◌}
 use borrow.Author.Tests.{le-leb, lt-leb}
 use Rattle.format.specs.Bytes.{bytes_at, same_bytes}
 use Rattle.format.specs.Names.{well_formed}
-use Rattle.format.specs.declared.Found.TheVariants.{At, Nothing}
 use Rattle.policy_file.specs.File.{name_of, is_named, count_of, label_named}
 use Rattle.policy_file.specs.Record.{label_kind}
 use Rattle.policy_file.specs.declared.Kind.TheVariants.{Label, Refused}
@@ -27,12 +27,12 @@ module _ (file : List ℕ) (labels : ℕ) where
     unfolding label_kind
     label_unformed e = rw (lt-leb 64 labels few, e)
 
-    pub label_carried : well_formed (name_of file labels) ≡ true → (i : ℕ) → label_named file labels (name_of file labels) ≡ At i
+    pub label_carried : well_formed (name_of file labels) ≡ true → (i : ℕ) → label_named file labels (name_of file labels) ≡ Some i
         → label_kind file labels ≡ Refused 7
     unfolding label_kind
     label_carried e i found = rw (lt-leb 64 labels few, e, found)
 
-    pub label_new : well_formed (name_of file labels) ≡ true → label_named file labels (name_of file labels) ≡ Nothing
+    pub label_new : well_formed (name_of file labels) ≡ true → label_named file labels (name_of file labels) ≡ None
         → label_kind file labels ≡ Label (count_of file labels)
     unfolding label_kind
     label_new e found = rw (lt-leb 64 labels few, e, found)

@@ -5,7 +5,6 @@ ghost use Rattle.std.specs.Prelude.{◌≡◌, ◌+◌, ◌*◌, ◌≤◌, leng
 ghost use Rattle.policy_file.specs.File.{label_named};
 ghost use Rattle.policy_file.specs.Record.{unnamed_of, with_name, label_kind};
 
-use format::Found;
 use policy_file::{Kind, Record};
 
 // A record that has no name.
@@ -19,21 +18,21 @@ pub fn unnamed(kind: Kind) -> Record
 }
 
 // The first of `labels` labels that has the name, or none.
-pub fn find_name(policy: &[u8], labels: usize, name: [u8; 8]) -> Found
+pub fn find_name(policy: &[u8], labels: usize, name: [u8; 8]) -> Option<usize>
     requires { 12 * labels ≤ length policy.now }
     ensures { result ≡ label_named policy.now labels name }
 {
+    // The project's scope names this form: a loop that breaks out with the place found as its value, or with not found.
     let mut i = 0;
-    let found = loop {
+    loop {
         if i == labels {
-            break Found::Nothing;
+            break None;
         }
         if names::same_name(names::read_name(policy, 12 * i + 2), name) {
-            break Found::At(i);
+            break Some(i);
         }
         i += 1;
-    };
-    found
+    }
 }
 
 // The `LB` record after `labels` labels and no pair.
@@ -49,8 +48,8 @@ pub fn read_label(policy: &[u8], labels: usize) -> Record
         return unnamed(Kind::Refused(6));
     }
     match find_name(policy, labels, name) {
-        Found::At(_) => unnamed(Kind::Refused(7)),
-        Found::Nothing => Record {
+        Some(_) => unnamed(Kind::Refused(7)),
+        None => Record {
             name,
             kind: Kind::Label(format::read_number(policy, 12 * labels + 10)),
         },

@@ -1,8 +1,10 @@
 // Keys, fingerprints and the lengths of new files as the verbs print them, as bytes in a buffer.
 #![tactic(auto)]
 
-ghost use Rattle.std.specs.Prelude.{◌+◌, ◌*◌, ◌≤◌, ◌<◌, length};
+ghost use Rattle.std.specs.Prelude.{◌+◌, ◌*◌, ◌≤◌, ◌<◌, ◌++◌, length};
 ghost use Rattle.buffers.specs.Put.{Put};
+ghost use Rattle.decimals.specs.Decimal.{capped};
+ghost use Rattle.decimals.specs.Worded.{worded};
 ghost use Rattle.lines.specs.Lines.{hex_line, fingerprint_line, option_line, key_text, issued_text, sealed_text, opened_text};
 
 // Writes bytes as a line of hexadecimal digits.
@@ -26,15 +28,16 @@ pub fn put_fingerprint(out: &mut [u8], at: usize, print: [u8; 8]) -> usize
     put_hex(out, next, &print)
 }
 
-// Writes that line if it is asked for.
+// Writes that line if it is asked for. `option` stands beside the fingerprint, and no Option: the definition `option_line` takes both.
 fn put_option(out: &mut [u8], at: usize, print: [u8; 8], option: bool) -> usize
     requires { at + 32 ≤ length out.old }
     ensures { Put out.old out.new at (option_line print option) result }
 {
     if option {
-        return put_fingerprint(out, at, print);
+        put_fingerprint(out, at, print)
+    } else {
+        at
     }
-    at
 }
 
 // Writes what `key` prints.
@@ -46,22 +49,31 @@ pub fn put_key(out: &mut [u8], key: [u8; 32], print: [u8; 8], option: bool) -> u
     put_option(out, end, print, option)
 }
 
+// Writes a word and the length of a new file, then that line if it is asked for.
+fn put_made(out: &mut [u8], word: &[u8], size: usize, print: [u8; 8], option: bool) -> usize
+    requires { (length word.now ≤ 8) × (128 ≤ length out.old) }
+    ensures { Put out.old out.new 0 (worded word.now (capped size) ++ option_line print option) result }
+{
+    let end = decimals::put_worded(out, 0, word, decimals::capped(size));
+    put_option(out, end, print, option)
+}
+
 // Writes what `issue` prints.
+#[tactic(auto, unfolding(decimals::specs::Text::bytes_of, crate::specs::Lines::issued_text))]
 pub fn put_issued(out: &mut [u8], size: usize, print: [u8; 8], option: bool) -> usize
     requires { 128 ≤ length out.old }
     ensures { Put out.old out.new 0 (issued_text size print option) result }
 {
-    let end = decimals::put_worded(out, 0, b"ISSUED", decimals::capped(size));
-    put_option(out, end, print, option)
+    put_made(out, b"ISSUED", size, print, option)
 }
 
 // Writes what `seal` prints.
+#[tactic(auto, unfolding(decimals::specs::Text::bytes_of, crate::specs::Lines::sealed_text))]
 pub fn put_sealed(out: &mut [u8], size: usize, print: [u8; 8], option: bool) -> usize
     requires { 128 ≤ length out.old }
     ensures { Put out.old out.new 0 (sealed_text size print option) result }
 {
-    let end = decimals::put_worded(out, 0, b"SEALED", decimals::capped(size));
-    put_option(out, end, print, option)
+    put_made(out, b"SEALED", size, print, option)
 }
 
 // Writes what `open` prints.

@@ -7,6 +7,7 @@ use native.Mathlib.Omega.{arith}
 use lib.Arith.{mod-mul}
 use lib.ListN.{length, take, drop, get_or, replicate}
 use lib.Seq.{drop-cons}
+use Rattle.std.specs.Int.{byte_at, bytes_low_first}
 use Rattle.little_endian.specs.LittleEndian.{little_endian, little_bytes}
 
 pub little_bytes_length : (n x : ℕ) → length (little_bytes n x) ≡ n
@@ -93,3 +94,16 @@ pub little_bytes_mod : (n x : ℕ) → little_bytes n x ≡ little_bytes n (x % 
 little_bytes_mod n x =
     let bs = little_bytes n x in
     sym (little_number_bytes bs (λ i l. little_bytes_small n x i)) ∙ rw (little_bytes_length n x, little_bytes_number n x)
+
+-- the library's word for the same bytes, which `to_le_bytes` gives
+byte_is : (i n : ℕ) → byte_at i n ≡ n / 256 ^ i % 256
+byte_is zero n = rw (pow-zero, div-one)
+byte_is (suc i) n = refl
+
+low_first : (k i n : ℕ) → bytes_low_first i k n ≡ little_bytes k (n / 256 ^ i)
+unfolding little_bytes
+low_first zero i n = refl
+low_first (suc k) i n = rw (byte_is i n, low_first k (suc i) n, pow-suc 256 i, div-div-eq-div-mul n (256 ^ i) 256)
+
+pub little_bytes_of : (k n : ℕ) → bytes_low_first 0 k n ≡ little_bytes k n
+little_bytes_of k n = low_first k 0 n ∙ rw (pow-zero, div-one)

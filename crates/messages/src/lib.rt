@@ -11,8 +11,8 @@ pub fn tell(rt: HostRuntime, bytes: &[u8]) {
 
 // Writes the front of a buffer to standard error.
 pub fn tell_front(rt: HostRuntime, buffer: &[u8], length: usize) {
-    if length <= buffer.len() {
-        tell(rt, &buffer[..length]);
+    if let Some(front) = buffer.get(..length) {
+        tell(rt, front);
     }
 }
 
@@ -79,12 +79,10 @@ pub fn tell_value(rt: HostRuntime, program: &[u8], before: &[u8], value: &[u8], 
 
 // How many bytes of an error's text are its reason: those before the number in parentheses that std puts after the system's own reasons.
 fn reason_length(text: &[u8], end: usize) -> usize {
-    for i in 1..text.len() {
-        if text[i] == b'(' {
-            return i - 1;
-        }
-    }
-    end
+    text.iter()
+        .skip(1)
+        .position(|byte| *byte == b'(')
+        .unwrap_or(end)
 }
 
 // Ends a line by the reason of an error, in the system's words.

@@ -22,31 +22,14 @@ pub fn class_of(byte: u8) -> Class
 pub fn well_formed(name: &[u8]) -> bool
     ensures { result ≡ well_formed name.now }
 {
-    let mut i = 0;
     let mut some = false;
     let mut padded = false;
-    while i < name.len() {
-        let class = class_of(name[i]);
-        i += 1;
-        match class {
-            Class::Letter => {
-                if padded {
-                    return false;
-                }
-                some = true;
-            }
-            Class::Digit => {
-                if padded {
-                    return false;
-                }
-                some = true;
-            }
-            Class::Space => {
-                padded = true;
-            }
-            Class::Refused => {
-                return false;
-            }
+    for byte in name {
+        match class_of(*byte) {
+            Class::Letter | Class::Digit if padded => return false,
+            Class::Letter | Class::Digit => some = true,
+            Class::Space => padded = true,
+            Class::Refused => return false,
         }
     }
     some

@@ -1,20 +1,16 @@
 // A new file, made whole or not at all, that only its owner may read and write. What fails is told on standard error.
 #![tactic(auto)]
 
-ghost use Rattle.std.specs.Prelude.{cond, ◌≡◌, length};
+ghost use Rattle.std.specs.Prelude.{ℕ, true, Option, Some, None, ◌≡◌, IfSome, option_map, length};
+ghost use Rattle.std.specs.Result.{result_ok};
 ghost use Rattle.io.specs.Counts.{IsPrefixLen};
+ghost use Rattle.outcomes.specs.Status.{is_done};
 
+use outcomes::Ended;
 use std::fs::{File, OpenOptions};
 use std::io::{Error, ErrorKind, Write};
 use std::os::unix::fs::OpenOptionsExt;
 use std::random::RandomSource;
-
-// How many bytes a new file has: all of those that were to be saved. Where it could not be made, it is not ok, and has none.
-#[derive(Clone, Copy)]
-pub struct Saved {
-    pub ok: bool,
-    pub length: usize,
-}
 
 // Puts the name of a temporary file beside a file at the start of the buffer.
 fn name_beside(path: &[u8], name: &mut [u8]) -> usize
@@ -26,14 +22,11 @@ fn name_beside(path: &[u8], name: &mut [u8]) -> usize
 
 // A letter or a digit for a byte that was drawn.
 fn letter(drawn: u8) -> u8 {
-    let place = drawn % 62;
-    if place < 10 {
-        return b'0' + place;
+    match drawn % 62 {
+        digit @ 0..=9 => b'0' + digit,
+        small @ 10..=35 => b'a' + (small - 10),
+        capital => b'A' + (capital - 36),
     }
-    if place < 36 {
-        return b'a' + (place - 10);
-    }
-    b'A' + (place - 36)
 }
 
 // Puts the six letters that a temporary file's name ends in: drawn, or those of the number of the try where the system draws none.
@@ -42,11 +35,8 @@ fn put_letters(rt: HostRuntime, name: &mut [u8], turn: u8) {
     if rt.fill_bytes(&mut drawn).is_err() {
         drawn = [turn; 6];
     }
-    if 6 <= name.len() {
-        let start = name.len() - 6;
-        for i in 0..6 {
-            name[start + i] = letter(drawn[i]);
-        }
+    for (place, byte) in name.iter_mut().rev().zip(drawn) {
+        *place = letter(byte);
     }
 }
 
@@ -78,31 +68,9 @@ fn write_kept(file: &mut File, bytes: &[u8]) -> Result<(), Error> {
     file.sync_all()
 }
 
-// Writes all bytes to an open file, has them kept and closes it.
-fn fill(rt: HostRuntime, program: &[u8], mut file: File, path: &[u8], bytes: &[u8]) -> bool {
-    match write_kept(&mut file, bytes) {
-        Ok(()) => true,
-        Err(error) => {
-            messages::file_failed(rt, program, path, error);
-            false
-        }
-    }
-}
-
-// Gives a file another name, by paths of the system.
+// Gives a file another name.
 fn rename(rt: HostRuntime, from: &[u8], to: &[u8]) -> Result<(), Error> {
     std::fs::rename(&rt, arguments::path(from)?, arguments::path(to)?)
-}
-
-// Gives a file another name.
-fn move_to(rt: HostRuntime, program: &[u8], from: &[u8], to: &[u8]) -> bool {
-    match rename(rt, from, to) {
-        Ok(()) => true,
-        Err(error) => {
-            messages::file_failed(rt, program, to, error);
-            false
-        }
-    }
 }
 
 // Removes a file, by a path of the system.
@@ -110,29 +78,35 @@ fn unlink(rt: HostRuntime, path: &[u8]) -> Result<(), Error> {
     std::fs::remove_file(&rt, arguments::path(path)?)
 }
 
-// Makes a temporary file that only its owner may read and write, and gives it the name of the file that is to be made.
-fn make_by(rt: HostRuntime, program: &[u8], name: &mut [u8], path: &[u8], bytes: &[u8]) -> bool {
-    match create_temp(rt, name) {
-        Ok(file) => {
-            if fill(rt, program, file, path, bytes) && move_to(rt, program, name, path) {
-                return true;
-            }
-            let _ = unlink(rt, name);
-            false
-        }
-        Err(error) => {
-            messages::file_failed(rt, program, path, error);
-            false
-        }
-    }
+// Gives a temporary file its bytes, and then the name of the file that is to be made.
+fn finish(
+    rt: HostRuntime,
+    mut file: File,
+    name: &[u8],
+    path: &[u8],
+    bytes: &[u8],
+) -> Result<(), Error> {
+    write_kept(&mut file, bytes)?;
+    drop(file);
+    rename(rt, name, path)
 }
 
-// Makes a file by way of one beside it, so that it is there only when it is whole.
-fn make(rt: HostRuntime, program: &[u8], path: &[u8], bytes: &[u8]) -> bool {
+// Makes a file by way of a temporary one of this name, so that it is there only when it is whole.
+fn make_by(rt: HostRuntime, name: &mut [u8], path: &[u8], bytes: &[u8]) -> Result<(), Error> {
+    let file = create_temp(rt, name)?;
+    let made = finish(rt, file, name, path, bytes);
+    if made.is_err() {
+        let _ = unlink(rt, name);
+    }
+    made
+}
+
+// Makes a file by way of one beside it.
+fn make(rt: HostRuntime, path: &[u8], bytes: &[u8]) -> Result<(), Error> {
     // Room for every path that an argument can be; the system refuses one that is too long.
     let mut name = [0u8; 8192];
     let length = name_beside(path, &mut name);
-    make_by(rt, program, &mut name[..length], path, bytes)
+    make_by(rt, &mut name[..length], path, bytes)
 }
 
 // Takes a name by an empty file, unless there is a file of that name.
@@ -145,39 +119,67 @@ fn take(rt: HostRuntime, path: &[u8]) -> Result<File, Error> {
 
 // Makes a file with these bytes, never over one that exists. The name is taken first, by an empty file, and the whole file is moved
 // over that. Where something fails nothing is left.
-fn make_new(rt: HostRuntime, program: &[u8], path: &[u8], bytes: &[u8]) -> bool {
-    if let Err(error) = take(rt, path) {
-        messages::file_failed(rt, program, path, error);
-        return false;
+fn make_new(rt: HostRuntime, path: &[u8], bytes: &[u8]) -> Result<(), Error> {
+    take(rt, path)?;
+    let made = make(rt, path, bytes);
+    if made.is_err() {
+        let _ = unlink(rt, path);
     }
-    if make(rt, program, path, bytes) {
-        return true;
-    }
-    let _ = unlink(rt, path);
-    false
+    made
 }
 
-// Saves bytes in a new file. Whether that is made depends on the file system, of which no contract speaks.
-pub fn save(rt: HostRuntime, program: &[u8], path: &[u8], bytes: &[u8]) -> Saved
-    ensures { result.length ≡ cond result.ok (length bytes.now) 0 }
+// How many bytes of a file that was to be made count: all of them, or none where it could not be made, and the reason is told.
+fn counted(
+    rt: HostRuntime,
+    program: &[u8],
+    path: &[u8],
+    bytes: &[u8],
+    made: Result<(), Error>,
+) -> Option<usize>
+    ensures { result ≡ option_map (λ done. length bytes.now) (result_ok made) }
 {
-    if make_new(rt, program, path, bytes) {
-        return Saved {
-            ok: true,
-            length: bytes.len(),
-        };
+    match made {
+        Ok(()) => Some(bytes.len()),
+        Err(error) => {
+            messages::file_failed(rt, program, path, error);
+            None
+        }
     }
-    Saved {
-        ok: false,
-        length: 0,
-    }
+}
+
+// Saves bytes in a new file, and answers how many it has: all of them. Whether it is made depends on the file system, of which no contract speaks.
+pub fn save(rt: HostRuntime, program: &[u8], path: &[u8], bytes: &[u8]) -> Option<usize>
+    ensures { IfSome result (λ size. size ≡ length bytes.now) }
+{
+    let made = make_new(rt, path, bytes);
+    counted(rt, program, path, bytes, made)
 }
 
 // Removes a file that was saved.
-pub fn remove(rt: HostRuntime, program: &[u8], path: &[u8]) {
+fn remove(rt: HostRuntime, program: &[u8], path: &[u8]) {
     if let Err(error) = unlink(rt, path) {
         messages::file_failed(rt, program, path, error);
     }
+}
+
+// Saves bytes in a new file, and prints what is told of it: by how many bytes it has, or by None where it was not saved. A file that cannot be told
+// of is removed again.
+pub fn keep<F: FnOnce(Option<usize>) -> Ended>(
+    rt: HostRuntime,
+    program: &[u8],
+    path: &[u8],
+    bytes: &[u8],
+    tell: F,
+) -> Ended
+    requires { F.pre tell None × F.pre tell (Some (length bytes.now)) }
+    ensures { (saved : Option ℕ) × IfSome saved (λ size. size ≡ length bytes.now) × (is_done result ≡ true → F.post tell saved result) }
+{
+    let saved = save(rt, program, path, bytes);
+    let told = answers::print(rt, program, tell(saved));
+    if saved.is_some() && matches!(told, Ended::Failed) {
+        remove(rt, program, path);
+    }
+    told
 }
 
 // Whether the argument that is to name a new file is `-`, which is then told.

@@ -38,11 +38,11 @@ fn tell_refused(rt: HostRuntime, program: &[u8], envelope: &[u8], file: &[u8], n
 }
 
 // Reports a call of `open`, which was printed when the text was saved.
-fn report(rt: HostRuntime, program: &[u8], envelope: &[u8], file: &[u8], printed: Ended) -> Ended
+fn report(rt: HostRuntime, program: &[u8], files: Option<(&[u8], &[u8])>, printed: Ended) -> Ended
     ensures { result ≡ printed }
 {
-    if printed.ok && printed.refusal != 0 {
-        tell_refused(rt, program, envelope, file, printed.refusal);
+    if let (Ended::Refused(number), Some((envelope, file))) = (printed, files) {
+        tell_refused(rt, program, envelope, file, number);
     }
     printed
 }
@@ -52,29 +52,15 @@ pub fn open(rt: HostRuntime, program: &[u8]) -> Ended
     ensures { OpenEnds result }
 {
     if new_file::is_no_file(rt, program, 4) {
-        return outcomes::failed();
+        return Ended::Failed;
     }
     // Longer files have the answer of their first 4,096 and 32,807 bytes (`text_front`, `text_file_front`, crate open_answers).
     let mut envelope = io::buffer();
     let mut file = [0u8; 32807];
     let read = files::read_both(rt, program, 2, 3, &mut envelope, &mut file);
+    let files = read.map(|(first, second)| (&envelope[..first], &file[..second]));
     let mut out = io::buffer();
-    let out_length = arguments::argument(rt, 4, &mut out);
-    let length = read.first;
-    let file_length = read.second;
-    let printed = open_verb::open(
-        rt,
-        program,
-        read.ok,
-        &envelope[..length],
-        &file[..file_length],
-        &out[..out_length],
-    );
-    report(
-        rt,
-        program,
-        &envelope[..length],
-        &file[..file_length],
-        printed,
-    )
+    let length = arguments::argument(rt, 4, &mut out);
+    let printed = open_verb::open(rt, program, files, &out[..length]);
+    report(rt, program, files, printed)
 }

@@ -1,30 +1,16 @@
 -- What a call of `open` tells, by what was opened and what was saved.
 use Prim.Native.Nat.{ℕ, ◌≤◌}
-use mathlib.Core.Bool.{Bool, true, false, cond}
 use mathlib.Core.List.{List, []}
-use mathlib.Core.Path.{◌≡◌, refl, sym, ap, ◌∙◌}
-use lib.ListN.{length, take}
+use mathlib.Core.Path.{◌≡◌, sym, ap}
+use lib.ListN.{length}
 use Rattle.buffers.proofs.Unless.{unless_within}
 use Rattle.buffers.specs.declared.Written.{Written}
 use Rattle.lines.specs.Lines.{opened_text}
-use Rattle.new_file.specs.declared.Saved.{Saved}
 use Rattle.open_answers.specs.Open.{key_for, open_refusal, opened_of, text_after}
-use Rattle.outcomes.proofs.Ending.{not_both, said_as, ends_answered, ends_as}
+use Rattle.outcomes.proofs.Ending.{said_as, ends_answered, ends_as}
 use Rattle.outcomes.specs.Status.{Said, Ends}
 use Rattle.outcomes.specs.declared.Ended.{Ended}
 use Rattle.sealed_file.specs.Sealed.{text_in}
-
--- where a call ends well only if all was saved, what is said is the length of all that was to be saved
-module _ (size : ℕ) (saved : Saved) (e : Ended) where
-  pub told_whole : saved.length ≡ cond saved.ok size 0 → (e.ok ≡ saved.ok)
-      → Said 0 (opened_text saved.length) e → Said 0 (opened_text size) e
-  told_whole counts done said ok = go saved.ok refl
-    where
-      go : (b : Bool) → saved.ok ≡ b → (e.refusal ≡ 0) × (take e.length e.text ≡ opened_text size)
-      go false o = not_both (done ∙ o) ok
-      go true o =
-          let whole : saved.length ≡ size = counts ∙ ap (λ (b : Bool). cond b size 0) o in
-          said_as 0 e (ap opened_text whole) said ok
 
 -- by what `open` answered, for a buffer of 32,768 bytes
 module _ (envelope file : List ℕ) (w : Written) (e : Ended) (same : w ≡ opened_of envelope file 32768) where

@@ -1,24 +1,10 @@
 // The order of labels as a table of 64 rows of 64 yes-or-no entries, built from a policy's over-pairs.
 #![tactic(auto)]
 
-ghost use Rattle.std.specs.Prelude.{min, ◌<◌, ◌≤◌, ◌≡◌, take};
-ghost use Rattle.order.specs.Table.{entry_at, alone, row_at, joined, Links, label_row, order_table};
+ghost use Rattle.std.specs.Prelude.{◌<◌, ◌≤◌, ◌≡◌, take};
+ghost use Rattle.order.specs.Table.{entry_at, alone, joined, Links, label_row, order_table};
 
 use order::Pair;
-
-// A label's number as an index.
-fn wide(x: u8) -> usize
-    ensures { result ≡ x }
-{
-    x as usize
-}
-
-// The smaller of a count and a limit.
-fn at_most(n: usize, limit: usize) -> usize
-    ensures { result ≡ min n limit }
-{
-    if n < limit { n } else { limit }
-}
 
 // The row that says yes of label `m` alone.
 fn alone(m: usize) -> [bool; 64]
@@ -30,23 +16,14 @@ fn alone(m: usize) -> [bool; 64]
     row
 }
 
-// The row of label `u`, which is complete.
-fn row_at(rows: &[[bool; 64]; 64], u: usize) -> [bool; 64]
-    requires { u < 64 }
-    ensures { result ≡ row_at rows.now u }
-{
-    rows[u]
-}
-
 // Two rows in one: yes where either is.
-fn joined(row: [bool; 64], above: [bool; 64]) -> [bool; 64]
-    ensures { result ≡ joined row above }
+fn joined(row: [bool; 64], above: &[bool; 64]) -> [bool; 64]
+    ensures { result ≡ joined row above.now }
 {
+    // A `for`, and no `std::array::from_fn`: with that the kit proves each function, and then cannot write down what the crate states.
     let mut both = [false; 64];
-    let mut l = 0;
-    while l < 64 {
+    for l in 0..64 {
         both[l] = row[l] | above[l];
-        l += 1;
     }
     both
 }
@@ -57,16 +34,11 @@ fn links(pairs: usize, over: [Pair; 512]) -> [[bool; 64]; 64]
     ensures { Links result (take pairs over) }
 {
     let mut table = [[false; 64]; 64];
-    let mut i = 0;
-    while i < pairs {
-        let pair = over[i];
-        let upper = wide(pair.upper);
-        let lower = wide(pair.lower);
-        i += 1;
-        if upper < 64 {
-            if lower < 64 {
-                table[lower][upper] = true;
-            }
+    for pair in &over[..pairs] {
+        let upper = usize::from(pair.upper);
+        let lower = usize::from(pair.lower);
+        if upper < 64 && lower < 64 {
+            table[lower][upper] = true;
         }
     }
     table
@@ -78,12 +50,10 @@ fn label_row(rows: &[[bool; 64]; 64], links: &[[bool; 64]; 64], m: usize) -> [bo
     ensures { result ≡ label_row rows.now (entry_at links.now m) m }
 {
     let mut row = alone(m);
-    let mut next = 0;
-    while next < m {
-        let u = next;
-        next += 1;
+    for u in 0..m {
         if links[m][u] {
-            let both = joined(row, row_at(rows, u));
+            // In two steps: written in one, the kit does not follow the array that the call answers into the row that it reads.
+            let both = joined(row, &rows[u]);
             row = both;
         }
     }
@@ -95,13 +65,9 @@ pub fn order_table(labels: usize, pairs: usize, over: [Pair; 512]) -> [[bool; 64
     ensures { result ≡ order_table labels (take pairs over) }
 {
     let mut rows = [[false; 64]; 64];
-    let n = at_most(labels, 64);
-    let links = links(at_most(pairs, 512), over);
-    let mut m = 0;
-    while m < n {
-        let row = label_row(&rows, &links, m);
-        rows[m] = row;
-        m += 1;
+    let links = links(pairs.min(512), over);
+    for m in 0..labels.min(64) {
+        rows[m] = label_row(&rows, &links, m);
     }
     rows
 }

@@ -9,6 +9,7 @@ use order::Pair;
 use policy_file::Kind;
 
 // Pair `k` after `labels` labels.
+#[tactic(auto, unfolding(policy_file::specs::File::pair_at))]
 fn read_pair(policy: &[u8], labels: usize, k: usize) -> Pair
     requires { place_of labels k + 4 ≤ length policy.now }
     ensures { result ≡ pair_at policy.now labels k }
@@ -21,6 +22,7 @@ fn read_pair(policy: &[u8], labels: usize, k: usize) -> Pair
 }
 
 // The `OV` record after `labels` labels and `pairs` pairs.
+#[tactic(auto, unfolding(policy_file::specs::Record::over_kind))]
 pub fn read_over(policy: &[u8], labels: usize, pairs: usize) -> Kind
     requires { place_of labels pairs + 4 ≤ length policy.now }
     ensures { result ≡ over_kind policy.now labels pairs }
@@ -29,12 +31,9 @@ pub fn read_over(policy: &[u8], labels: usize, pairs: usize) -> Kind
         return Kind::Refused(5);
     }
     let pair = read_pair(policy, labels, pairs);
-    let upper = pair.upper as usize;
-    let lower = pair.lower as usize;
-    if labels <= upper {
-        return Kind::Refused(8);
-    }
-    if labels <= lower {
+    let upper = usize::from(pair.upper);
+    let lower = usize::from(pair.lower);
+    if labels <= upper || labels <= lower {
         return Kind::Refused(8);
     }
     if lower <= upper {

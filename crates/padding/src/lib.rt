@@ -5,23 +5,12 @@ ghost use Rattle.std.specs.Prelude.{◌≡◌, ◌++◌, ◌+◌, ◌/◌, ◌%�
 ghost use Rattle.lists.specs.Buffer.{pasted, zero_filled};
 ghost use Rattle.padding.specs.Padding.{word_bytes, zero_bytes, padding};
 
-// The byte of x that stands n bits from its end.
-fn byte_at(x: u32, n: u32) -> u8
-    requires { n < 32 }
-    ensures { result ≡ x / 2 ^ n % 256 }
-{
-    ((x >> n) % 256) as u8
-}
-
 // Writes the four bytes of a word, most significant first.
 pub fn put_word(buffer: &mut [u8], at: usize, x: u32)
     requires { at + 4 ≤ length buffer.old }
     ensures { buffer.new ≡ pasted buffer.old at (word_bytes x) }
 {
-    buffer[at] = byte_at(x, 24);
-    buffer[at + 1] = byte_at(x, 16);
-    buffer[at + 2] = byte_at(x, 8);
-    buffer[at + 3] = (x % 256) as u8;
+    buffer[at..at + 4].copy_from_slice(&x.to_be_bytes());
 }
 
 // Where the padding ends that follows n bytes of a last block.
@@ -41,9 +30,8 @@ pub fn last_blocks(rest: &[u8], total: usize) -> [u8; 128]
     let bits = (total as u64) << 3;
     let end = padded_end(n);
     let mut last = [0u8; 128];
-    last[..rest.len()].copy_from_slice(rest);
+    last[..n].copy_from_slice(rest);
     last[n] = 0x80;
-    put_word(&mut last, end - 8, (bits >> 32) as u32);
-    put_word(&mut last, end - 4, (bits % 0x1_0000_0000) as u32);
+    last[end - 8..end].copy_from_slice(&bits.to_be_bytes());
     last
 }

@@ -22,6 +22,7 @@ pub struct Chosen {
 }
 
 // Whether a later label takes the place of the best so far: the rule for ties.
+#[tactic(auto, unfolding(trees::specs::Weights::takes))]
 fn takes(later: u32, sofar: u32) -> bool
     ensures { result ≡ takes later sofar }
 {
@@ -36,28 +37,22 @@ fn least_parent(labels: usize, counts: &[u16; 64], rows: &[[bool; 64]; 64], m: u
     if m == 0 {
         return Choice {
             parent: 0,
-            weight: weights::accounts(counts[0]),
+            weight: u32::from(counts[0]),
         };
     }
     let above = weights::accounts_above(labels, counts, rows, m);
-    let mut best = 0;
-    let mut least = weights::weight(labels, &above, rows, 0);
-    let mut p = 1;
-    while p < m {
-        let next = p;
-        p += 1;
-        if rows[m][next] {
-            let weighed = weights::weight(labels, &above, rows, next);
-            if takes(weighed, least) {
-                best = next;
-                least = weighed;
+    let mut parent = 0;
+    let mut weight = weights::weight(labels, &above, rows, 0);
+    for p in 1..m {
+        if rows[m][p] {
+            let weighed = weights::weight(labels, &above, rows, p);
+            if takes(weighed, weight) {
+                parent = p;
+                weight = weighed;
             }
         }
     }
-    Choice {
-        parent: best,
-        weight: least,
-    }
+    Choice { parent, weight }
 }
 
 // A number past label `m`: up to it all labels that can be above `m` are counted, eight at a time.
@@ -65,7 +60,7 @@ fn past(m: usize) -> usize
     requires { m < 64 }
     ensures { (m < result) × (result ≤ 64) }
 {
-    (m / 8 + 1) * 8
+    (m + 1).next_multiple_of(8)
 }
 
 // For each label a parent of least weight, with that weight.
@@ -75,12 +70,10 @@ pub fn choose(labels: usize, counts: &[u16; 64], rows: &[[bool; 64]; 64]) -> Cho
 {
     let mut parents = [0u8; 64];
     let mut weights = [0u32; 64];
-    let mut m = 0;
-    while m < labels {
+    for m in 0..labels {
         let choice = least_parent(past(m), counts, rows, m);
         parents[m] = choice.parent as u8;
         weights[m] = choice.weight;
-        m += 1;
     }
     Chosen { parents, weights }
 }

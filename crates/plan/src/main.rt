@@ -13,11 +13,10 @@ fn print_plan(rt: HostRuntime) -> Ended
     ensures { (policy : List ℕ) × Ends (policy_refusal policy) (plan_text policy) result }
 {
     // More than the 2,828 bytes that decide (`printed_front`, crate plan_texts).
-    let mut policy = io::buffer();
-    let read = files::read_input(rt, b"plan", &mut policy);
-    let length = read.length;
-    let ended = plan_verbs::plan(read.ok, &policy[..length]);
-    answers::print(rt, b"plan", ended)
+    let mut bytes = io::buffer();
+    let read = files::read_input(rt, b"plan", &mut bytes);
+    let policy = read.map(|length| &bytes[..length]);
+    answers::print(rt, b"plan", plan_verbs::plan(policy))
 }
 
 fn main(rt: HostRuntime) {

@@ -1,5 +1,5 @@
 -- Laws of the check at a file's end, and of the answer from where its reading stops.
-use Prim.Native.Nat.{ℕ, ◌+◌, ◌≤◌, ◌<◌}
+use Prim.Native.Nat.{ℕ, ◌+◌, ◌-◌, ◌≤◌, ◌<◌}
 use mathlib.Core.Bool.{Bool, true, false, ◌||◌, or-true, or-false}
 use mathlib.Core.List.{List}
 use mathlib.Core.Path.{◌≡◌, refl, sym, ◌∙◌}
@@ -10,6 +10,7 @@ use lib.Dec.{eqb}
 use lib.ListN.{length, get_or, set, replicate}
 use borrow.Author.Tests.{eq-eqb, ne_eqb}
 use Rattle.lists.proofs.Listed.{listed_set}
+use Rattle.lists.proofs.Ranges.{RangeAnswer}
 use Rattle.lists.proofs.Tables.{every_all, every_miss, get_d_listed}
 use Rattle.lists.specs.Tables.{some_below, listed}
 use Rattle.order.specs.declared.Pair.{Pair}
@@ -22,13 +23,12 @@ module _ (over : List Pair) where
   unfolding listed is_lower some_below
   no_lowers = refl
 
-  pub lowers_more : (k : ℕ) → (get_or over k no_pair).lower < 256
-      → set (listed (is_lower over k) 256) (get_or over k no_pair).lower true ≡ listed (is_lower over (k + 1)) 256
+  pub lowers_more : (k lower : ℕ) → lower ≡ (get_or over k no_pair).lower → lower < 256 → set (listed (is_lower over k) 256) lower true ≡ listed (is_lower over (k + 1)) 256
   unfolding is_lower is_lower_of some_below
-  lowers_more k h =
-      listed_set (is_lower over k) (is_lower over (k + 1)) 256 (get_or over k no_pair).lower true h
-      (rw (add-one, eq-eqb (get_or over k no_pair).lower (get_or over k no_pair).lower refl, or-true))
-      (λ m lt ne. rw (add-one, ne_eqb (get_or over k no_pair).lower m (λ e. ne (sym e)), or-false))
+  lowers_more k lower e h =
+      listed_set (is_lower over k) (is_lower over (k + 1)) 256 lower true h
+      (rw (add-one, ← e, eq-eqb lower lower refl, or-true))
+      (λ m lt ne. rw (add-one, ← e, ne_eqb lower m (λ same. ne (sym same)), or-false))
 
 -- the check at the end: label 0 needs no pair, any other is placed exactly when it is the lower of one
 module _ (over : List Pair) (pairs : ℕ) where
@@ -44,38 +44,27 @@ module _ (over : List Pair) (pairs : ℕ) where
   unfolding is_placed
   unplaced m h e = rw (ne_eqb m 0 (omega arith), e)
 
--- the labels from 1 up to m are lowers
-abbrev pub LowersBelow : List Bool → ℕ → Type 0
-LowersBelow lower m = (i : ℕ) → 1 ≤ i → i < m → get_or lower i false ≡ true
-
-pub lowers_next : (lower : List Bool) (m : ℕ) → LowersBelow lower m → get_or lower m false ≡ true → LowersBelow lower (m + 1)
-lowers_next lower m before here i a b = go (ℕ_discrete i m)
-  where
-    go : Dec (i ≡ m) → get_or lower i false ≡ true
-    go (yes e) = rw e here
-    go (no d) = before i a (omega arith)
-
-module _ (over : List Pair) (pairs labels m : ℕ) (lower : List Bool) (found : lower ≡ listed (is_lower over pairs) 256) (few : labels ≤ 64) where
+module _ (over : List Pair) (pairs labels : ℕ) (lower : List Bool) (found : lower ≡ listed (is_lower over pairs) 256) (few : labels ≤ 64) where
   lower_at : (i : ℕ) → i < labels → is_lower over pairs i ≡ get_or lower i false
   lower_at i h = rw found (sym (get_d_listed (is_lower over pairs) 256 i false (omega arith)))
 
-  pub all_found : labels ≤ m → LowersBelow lower m → all_placed labels pairs over ≡ true
-  all_found h all =
-      every_all (is_placed over pairs) labels (λ i l. placed over pairs i (λ one. lower_at i l ∙ all i one (omega arith)))
-
-  pub one_missing : 1 ≤ m → m < labels → get_or lower m false ≡ false → all_placed labels pairs over ≡ false
-  one_missing h l e = every_miss (is_placed over pairs) labels m l (unplaced over pairs m h (lower_at m l ∙ e))
+  -- the answer of a test of the labels from 1 on
+  pub checked : (r : Bool) → RangeAnswer 1 (labels - 1) (λ m. get_or lower m false ≡ true) (λ m. get_or lower m false ≡ false) r → r ≡ all_placed labels pairs over
+  checked true all = sym (every_all (is_placed over pairs) labels (λ i l. placed over pairs i (λ one. lower_at i l ∙ all i one (omega arith))))
+  checked false one =
+      let l : one.0 < labels = omega (arith, one.1, one.2) in
+      sym (every_miss (is_placed over pairs) labels one.0 l (unplaced over pairs one.0 one.1 (lower_at one.0 l ∙ one.3)))
 
 -- the answer for the empty file
-pub no_bytes : (file : List ℕ) → length file ≡ 0 → policy_of file ≡ refused_policy 1
+pub no_bytes : (file : List ℕ) → eqb (length file) 0 ≡ true → policy_of file ≡ refused_policy 1
 unfolding policy_of
-no_bytes file e = rw (eq-eqb (length file) 0 e)
+no_bytes file e = rw e
 
 -- the answer for any other, from where its reading stops: at a refused record, or at the end, where a label is not placed or all are
-module _ (file : List ℕ) (some : length file ≡ 0 → ⊥) (s : Policy) (stop : s ≡ stop_of file) where
+module _ (file : List ℕ) (some : eqb (length file) 0 ≡ false) (s : Policy) (stop : s ≡ stop_of file) where
   answer : policy_of file ≡ on_stop s
   unfolding policy_of
-  answer = rw (ne_eqb (length file) 0 some, stop)
+  answer = rw (some, stop)
 
   pub refused_answer : (s.refusal ≡ 0 → ⊥) → policy_of file ≡ refused_policy s.refusal
   refused_answer d = answer ∙ rw (ne_eqb s.refusal 0 d)

@@ -8,24 +8,14 @@ ghost use Rattle.policy_file.specs.Whole.{is_lower, all_placed, refused_policy, 
 use order::Pair;
 use policy_file::Policy;
 
-// The lower number of a pair as an index.
-fn lower_of(pair: Pair) -> usize
-    ensures { (result ≡ pair.lower) × (result < 256) }
-{
-    pair.lower as usize
-}
-
 // Which numbers are the lower of one of the first `pairs` pairs.
 pub fn lowers(pairs: usize, over: [Pair; 512]) -> [bool; 256]
     requires { pairs ≤ 512 }
     ensures { result ≡ listed (is_lower over pairs) 256 }
 {
     let mut found = [false; 256];
-    let mut k = 0;
-    while k < pairs {
-        let lower = lower_of(over[k]);
-        found[lower] = true;
-        k += 1;
+    for pair in &over[..pairs] {
+        found[usize::from(pair.lower)] = true;
     }
     found
 }
@@ -36,14 +26,7 @@ fn all_placed(labels: usize, pairs: usize, over: [Pair; 512]) -> bool
     ensures { result ≡ all_placed labels pairs over }
 {
     let lower = lowers(pairs, over);
-    let mut m = 1;
-    while m < labels {
-        if !lower[m] {
-            return false;
-        }
-        m += 1;
-    }
-    true
+    (1..labels).all(|m| lower[m])
 }
 
 // The answer for a refused file.
@@ -64,7 +47,7 @@ fn refuse(number: u8) -> Policy
 pub fn read_policy(policy: &[u8]) -> Policy
     ensures { result ≡ policy_of policy.now }
 {
-    if policy.len() == 0 {
+    if policy.is_empty() {
         return refuse(1);
     }
     let read = policy_reading::read_to_stop(policy);

@@ -31,11 +31,10 @@ pub fn yendlowa_policy_records(policy: &[u8]) -> usize
 fn in_line(table: &[[bool; 64]; 64]) -> [bool; 4096]
     ensures { result ≡ in_line table.now }
 {
+    // No array::from_fn: of 4,096 entries its clause says each in turn, and the check does not come to an end.
     let mut line = [false; 4096];
-    let mut i = 0;
-    while i < 4096 {
+    for i in 0..4096 {
         line[i] = order_table::at_or_below(table, i / 64, i % 64);
-        i += 1;
     }
     line
 }

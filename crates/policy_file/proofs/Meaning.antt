@@ -1,4 +1,5 @@
 -- One record: what `policy_kind` answers is what the rows of the table say in words.
+use Rattle.std.specs.Prelude.{None, Option, Some}
 use Prim.Native.Nat.{ℕ, ◌≤◌, ◌<◌}
 use mathlib.Core.Bool.{Bool, true, false, cond, not, false≢true}
 use mathlib.Core.List.{List, [], ◌∷◌}
@@ -15,8 +16,6 @@ use Rattle.format.specs.Bytes.{same_bytes}
 use Rattle.format.specs.Form.{NameForm}
 use Rattle.format.specs.Marks.{LB, OV}
 use Rattle.format.specs.Names.{well_formed}
-use Rattle.format.specs.declared.Found.TheVariants.{At, Nothing}
-use Rattle.format.specs.declared.Found.{Found}
 use Rattle.order.specs.declared.Pair.{Pair}
 use Rattle.policy_file.proofs.Names.{name_at, name_none, name_found_lem, name_new}
 use Rattle.policy_file.specs.File.{name_of, count_of, pair_at, label_named}
@@ -75,7 +74,7 @@ module _ (file : List ℕ) (labels pairs : ℕ) where
   too_many (over_513 w h) = at_over w ∙ rw (le-leb 512 pairs h)
 
   label_fits : LabelFits file labels pairs → (t : Bool) → well_formed (name_of file labels) ≡ t
-      → (f : Found) → label_named file labels (name_of file labels) ≡ f
+      → (f : Option ℕ) → label_named file labels (name_of file labels) ≡ f
       → policy_kind file labels pairs ≡ cond (not t) (Refused 6) (unless_found f (Label (count_of file labels)))
   unfolding label_kind
   label_fits l t et f ef =
@@ -111,7 +110,7 @@ module _ (file : List ℕ) (labels pairs : ℕ) where
       label_fits r.label false (malformed_false (name_of file labels) r.malformed) (label_named file labels (name_of file labels)) refl
   refused_kind (row_7 r) =
       let f = name_found_lem file (name_of file labels) labels r.earlier r.before r.carried in
-      label_fits r.label true ((well_formed_iff (name_of file labels)).1 r.formed) (At f.0) f.1
+      label_fits r.label true ((well_formed_iff (name_of file labels)).1 r.formed) (Some f.0) f.1
   refused_kind (row_8 r) = no_such_label r
   refused_kind (row_9 r) =
       over_fits r.over false false true (lt-leb labels (pair_at file labels pairs).upper r.upper)
@@ -123,7 +122,7 @@ module _ (file : List ℕ) (labels pairs : ℕ) where
   kind_of (is_end e) = rw (eq-eqb (bytes_left file labels pairs) 0 e)
   kind_of (is_refused r) = refused_kind r
   kind_of (is_label r) =
-      label_fits r.label true ((well_formed_iff (name_of file labels)).1 r.formed) Nothing (name_new file (name_of file labels) labels r.new)
+      label_fits r.label true ((well_formed_iff (name_of file labels)).1 r.formed) None (name_new file (name_of file labels) labels r.new)
   kind_of (is_over r) =
       over_fits r.over false false false (lt-leb labels (pair_at file labels pairs).upper (omega (arith, r.lower, r.falls)))
       (lt-leb labels (pair_at file labels pairs).lower r.lower)
@@ -140,11 +139,11 @@ module _ (file : List ℕ) (labels pairs : ℕ) where
   read_name : LabelFits file labels pairs → NameForm (name_of file labels) → Meaning
   read_name l form = go (label_named file labels (name_of file labels)) refl
     where
-      go : (f : Found) → label_named file labels (name_of file labels) ≡ f → Meaning
-      go (At k) e =
+      go : (f : Option ℕ) → label_named file labels (name_of file labels) ≡ f → Meaning
+      go (Some k) e =
           let at = name_at file (name_of file labels) labels k e in
           no_row (row_7 record { label = l; formed = form; earlier = k; before = at.below; carried = at.here })
-      go Nothing e =
+      go None e =
           (Label (count_of file labels), is_label record { label = l; formed = form; new = name_none file (name_of file labels) labels e })
 
   read_label : WholeLabel file labels pairs → Meaning

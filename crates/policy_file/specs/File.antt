@@ -1,8 +1,7 @@
 -- Where things stand in a policy file (01, "The policy file"): all `LB` records (12 bytes) precede all `OV` records (4 bytes).
-use Rattle.std.specs.Prelude.{ℕ, ◌+◌, ◌*◌, Bool, List, get_or}
+use Rattle.std.specs.Prelude.{ℕ, ◌+◌, ◌*◌, Bool, List, get_or, Option}
 use Rattle.format.specs.Bytes.{bytes_at, same_bytes, number_at}
 use Rattle.format.specs.Search.{first_from}
-use Rattle.format.specs.declared.Found.{Found}
 use Rattle.order.specs.declared.Pair.{Pair}
 
 -- where the record after so many labels and pairs starts
@@ -29,5 +28,5 @@ unfoldable pub is_named : List ℕ → List ℕ → ℕ → Bool
 is_named file name i = same_bytes (name_of file i) name
 
 -- the first of so many labels that has the name
-unfoldable pub label_named : List ℕ → ℕ → List ℕ → Found
+unfoldable pub label_named : List ℕ → ℕ → List ℕ → Option ℕ
 label_named file labels name = first_from (is_named file name) 0 labels

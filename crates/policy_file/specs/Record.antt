@@ -1,20 +1,18 @@
 -- One record of a policy file, read after so many labels and pairs: a label, an over-pair, the end of the file or a refusal.
 -- Refusals in the order of 01's table: 2 and 3 at any record; 4 to 7 at `LB`; 5, 8 and 9 at `OV`.
-use Rattle.std.specs.Prelude.{ℕ, ◌-◌, cond, not, List, leb, ltb, eqb, length, replicate}
+use Rattle.std.specs.Prelude.{ℕ, ◌-◌, cond, not, List, leb, ltb, eqb, length, replicate, None, Option, Some}
 use Rattle.format.specs.Bytes.{bytes_at, same_bytes}
 use Rattle.format.specs.Marks.{LB, OV}
 use Rattle.format.specs.Names.{well_formed}
-use Rattle.format.specs.declared.Found.TheVariants.{At, Nothing}
-use Rattle.format.specs.declared.Found.{Found}
 use Rattle.policy_file.specs.File.{place_of, name_of, count_of, pair_at, label_named}
 use Rattle.policy_file.specs.declared.Kind.TheVariants.{Label, Over, End, Refused}
 use Rattle.policy_file.specs.declared.Kind.{Kind}
 use Rattle.policy_file.specs.declared.Record.{Record}
 
 -- a label whose name an earlier record carries is refused
-abbrev pub unless_found : Found → Kind → Kind
-unless_found (At i) k = Refused 7
-unless_found Nothing k = k
+abbrev pub unless_found : Option ℕ → Kind → Kind
+unless_found (Some i) k = Refused 7
+unless_found None k = k
 
 -- the next label, with its count
 unfoldable pub label_kind : List ℕ → ℕ → Kind

@@ -2,23 +2,10 @@
 #![tactic(auto)]
 
 ghost use Rattle.std.specs.Prelude.{◌≡◌};
-ghost use Rattle.policy_file.specs.Record.{kind_number};
 ghost use Rattle.policy_file.specs.Whole.{stop_of, policy_records_read};
 
 use order::Pair;
 use policy_file::{Kind, Policy};
-
-// The number of a refused record; 0 for any other kind.
-fn stop_number(kind: Kind) -> u8
-    ensures { result ≡ kind_number kind }
-{
-    match kind {
-        Kind::Label(_) => 0,
-        Kind::Over(_) => 0,
-        Kind::End => 0,
-        Kind::Refused(number) => number,
-    }
-}
 
 // What the records say from the first on, up to the end of the file, or to the first refused record with its number. The count of a label
 // and the numbers of a pair are stored as they are read.
@@ -29,10 +16,10 @@ pub fn read_to_stop(policy: &[u8]) -> Policy
     let mut pairs = 0;
     let mut counts = [0u16; 64];
     let mut over = [Pair { upper: 0, lower: 0 }; 512];
+    // A `while let` would be no plainer: the loop ends at the end of the file, and at a refusal with its number.
     let refusal = loop {
         let record = policy_record::read_record(policy, labels, pairs);
-        let kind = record.kind;
-        match kind {
+        match record.kind {
             Kind::Label(count) => {
                 counts[labels] = count;
                 labels += 1;
@@ -41,9 +28,8 @@ pub fn read_to_stop(policy: &[u8]) -> Policy
                 over[pairs] = pair;
                 pairs += 1;
             }
-            _ => {
-                break stop_number(kind);
-            }
+            Kind::End => break 0,
+            Kind::Refused(number) => break number,
         }
     };
     Policy {

@@ -3,9 +3,11 @@ use mathlib.Core.Path.{◌≡◌, refl, ap, sym, ◌∙◌}
 use mathlib.Core.List.{List, [], ◌∷◌, ◌++◌}
 use Prim.Native.Nat.{ℕ, zero, suc, ◌+◌, ◌-◌, ◌*◌, ◌/◌, ◌%◌, ◌^◌, ◌≤◌, ◌<◌}
 use native.Mathlib.Omega.{arith}
-use lib.ListN.{length, take, drop, set, replicate, length-append, length-drop}
+use lib.ListN.{length, get_or, take, drop, set, replicate, length-append, length-take, length-drop}
 use lib.Seq.{drop-drop, drop_at, length-take-le, take-append-le, drop-append-le, take_all}
+use Rattle.std.specs.Simd.{first_chunks}
 use Rattle.lists.specs.Buffer.{zero_filled}
+use Rattle.lists.proofs.Chunks.{chunk_at}
 use Rattle.lists.proofs.Pasted.{copied, stored_next, zero_filled_length}
 use Rattle.little_endian.specs.LittleEndian.{little_endian}
 use Rattle.little_endian.proofs.LittleEndian.{little_append, little_bytes_length, little_zeros}
@@ -62,13 +64,18 @@ whole_number s i h =
     let l : length b ≡ 16 = length-take-le 16 (drop (16 * i) s) (omega (arith, length-drop (16 * i) s)) in
     little_append b (1 ∷ []) ∙ rw (l, one_byte)
 
+-- a block as `as_chunks` cuts it
+cut : (s : List ℕ) (i count : ℕ) → i < count → take 16 (get_or (first_chunks 16 count s) i []) ≡ take 16 (drop (16 * i) s)
+cut s i count h = rw (chunk_at 16 count s i h) (take_all 16 (take 16 (drop (16 * i) s)) (omega (arith, length-take 16 (drop (16 * i) s))))
+
 -- one turn of the loop over whole blocks
-pub absorbed_turn : (r a : ℕ) (s : List ℕ) (i x v n : ℕ) → 16 * suc i ≤ length s → x ≡ absorbed r a s i
-    → n ≡ little_endian (take 16 (drop (16 * i) s)) → v ≡ (x + (n + 2 ^ 128 * 1)) * r % prime → v ≡ absorbed r a s (i + 1)
+pub absorbed_turn : (r a : ℕ) (s : List ℕ) (i x v n : ℕ) → i < length s / 16 → x ≡ absorbed r a s i
+    → n ≡ little_endian (take 16 (get_or (first_chunks 16 (length s / 16) s) i []))
+    → v ≡ (x + (n + 2 ^ 128 * 1)) * r % prime → v ≡ absorbed r a s (i + 1)
 unfolding absorbed stepped
 absorbed_turn r a s i x v n h e f g =
     let k : i + 1 ≡ suc i = omega arith in
-    rw (k, whole_number s i h) (g ∙ rw (e, f))
+    rw (k, whole_number s i (omega arith)) (g ∙ rw (e, f, cut s i (length s / 16) h))
 
 -- no block is left, or one that is not whole
 pub rest_none : (r a : ℕ) (s : List ℕ) → length s ≡ 0 → absorbed r a s (blocks s) ≡ a
@@ -99,12 +106,12 @@ absorbed_rest r a s copy n v l h e f g =
     g ∙ rw (one, number, rest_block s h)
 
 -- the whole blocks of a message, then what is left
-pub absorbed_all : (r a : ℕ) (m rest : List ℕ) (at : ℕ) → at ≡ length m / 16 * 16 → rest ≡ take (length m - at) (drop at m)
+pub absorbed_all : (r a : ℕ) (m rest : List ℕ) → rest ≡ drop (length m / 16 * 16) m
     → absorbed r (absorbed r a m (length m / 16)) rest (blocks rest) ≡ absorbed r a m (blocks m)
 unfolding blocks
-absorbed_all r a m rest at whole part =
+absorbed_all r a m rest part =
     let q = length m / 16 in
-    let e : at ≡ 16 * q = omega arith in
-    let f : rest ≡ drop (16 * q) m = part ∙ take_all (length m - at) (drop at m) (omega (arith, length-drop at m)) ∙ rw e in
+    let e : q * 16 ≡ 16 * q = omega arith in
+    let f : rest ≡ drop (16 * q) m = part ∙ rw e in
     let g : q + (length (drop (16 * q) m) + 15) / 16 ≡ (length m + 15) / 16 = omega (arith, length-drop (16 * q) m) in
     rw f (sym (absorbed_from r a m q ((length (drop (16 * q) m) + 15) / 16)) ∙ rw g)

@@ -1,6 +1,6 @@
 -- Poly1305 (RFC 8439, section 2.5), over natural numbers.
 use Rattle.std.specs.Prelude.{List, [], ◌∷◌, ◌++◌, ℕ, zero, suc, ◌+◌, ◌*◌, ◌/◌, ◌%◌, length, take, drop}
-use Rattle.std.specs.Int.Bits.{bit_and}
+use Rattle.std.specs.Int.Bits.{bit_and, bit_or, bit_xor}
 use Rattle.little_endian.specs.LittleEndian.{little_endian, little_bytes}
 use Rattle.poly1305_limbs.specs.Prime.{prime}
 
@@ -43,3 +43,7 @@ tagged a s = little_bytes 16 (a + s)
 -- "poly1305_mac(msg, key)" (section 2.5.1)
 unfoldable pub poly1305 : (key message : List ℕ) → List ℕ
 poly1305 key message = tagged (absorbed (multiplier key) 0 message (blocks message)) (addend key)
+
+-- one more difference, of two bytes, gathered: nothing is gathered in the end if and only if the bytes are the same
+abbrev pub gather : ℕ → ℕ × ℕ → ℕ
+gather d (x, y) = bit_or d (bit_xor x y)

@@ -1,21 +1,15 @@
 // Poly1305 (RFC 8439, section 2.5): the tag of a message under a one-time key of 32 bytes.
 #![tactic(auto)]
 
-ghost use Rattle.std.specs.Prelude.{◌≡◌, ◌+◌, ◌/◌, ◌%◌, ◌≤◌, ◌<◌, length, take, drop};
+ghost use Rattle.std.specs.Prelude.{◌≡◌, ◌+◌, ◌/◌, ◌%◌, ◌≤◌, ◌<◌, length, take, drop, zip};
+ghost use Rattle.std.specs.List.{fold};
 ghost use Rattle.format.specs.Bytes.{same_bytes};
 ghost use Rattle.little_endian.specs.LittleEndian.{little_endian, little_bytes};
 ghost use Rattle.poly1305_limbs.specs.Prime.{prime};
 ghost use Rattle.poly1305_limbs.specs.Limbs.{value, multiplier_value, words_value, Narrow, Reduced, Clamped};
-ghost use Rattle.poly1305.specs.Poly1305.{multiplier, addend, absorbed, blocks, tagged, poly1305};
+ghost use Rattle.poly1305.specs.Poly1305.{multiplier, addend, absorbed, blocks, tagged, poly1305, gather};
 
 use poly1305_limbs::{Accumulator, Multiplier, Words};
-
-// A word of 32 bits as one of 64.
-fn wide(x: u32) -> u64
-    ensures { (result ≡ x) × (result < 4294967296) }
-{
-    x as u64
-}
 
 // The number of 16 bytes from a place on.
 fn words_at(bytes: &[u8], at: usize) -> Words
@@ -23,10 +17,10 @@ fn words_at(bytes: &[u8], at: usize) -> Words
     ensures { Narrow result × (words_value result ≡ little_endian (take 16 (drop at bytes.now))) }
 {
     Words {
-        w0: wide(little_endian::word_at(bytes, at)),
-        w1: wide(little_endian::word_at(bytes, at + 4)),
-        w2: wide(little_endian::word_at(bytes, at + 8)),
-        w3: wide(little_endian::word_at(bytes, at + 12)),
+        w0: u64::from(little_endian::word_at(bytes, at)),
+        w1: u64::from(little_endian::word_at(bytes, at + 4)),
+        w2: u64::from(little_endian::word_at(bytes, at + 8)),
+        w3: u64::from(little_endian::word_at(bytes, at + 12)),
     }
 }
 
@@ -75,13 +69,10 @@ pub fn absorb(h: Accumulator, r: Multiplier, message: &[u8]) -> Accumulator
     requires { Reduced h × Clamped r }
     ensures { Reduced result × (value result % prime ≡ absorbed (multiplier_value r) (value h % prime) message.now (length message.now / 16)) }
 {
-    let n = message.len() / 16;
+    let (blocks, _) = message.as_chunks::<16>();
     let mut a = h;
-    let mut i = 0;
-    while i < n {
-        let block = words_at(message, 16 * i);
-        a = poly1305_limbs::step(a, r, block, 1);
-        i += 1;
+    for block in blocks {
+        a = poly1305_limbs::step(a, r, words_at(block, 0), 1);
     }
     a
 }
@@ -96,10 +87,9 @@ fn absorb_rest(h: Accumulator, r: Multiplier, rest: &[u8]) -> Accumulator
         return h;
     }
     let mut block = [0u8; 16];
-    block[..rest.len()].copy_from_slice(rest);
+    block[..n].copy_from_slice(rest);
     block[n] = 1;
-    let number = words_at(&block, 0);
-    poly1305_limbs::step(h, r, number, 0)
+    poly1305_limbs::step(h, r, words_at(&block, 0), 0)
 }
 
 // The tag, from the accumulator after the last block.
@@ -107,8 +97,7 @@ pub fn finish(h: Accumulator, key: &[u8]) -> [u8; 16]
     requires { Reduced h × (length key.now ≡ 32) }
     ensures { result ≡ tagged (value h % prime) (addend key.now) }
 {
-    let s = words_at(key, 16);
-    bytes_of(poly1305_limbs::finish(h, s))
+    bytes_of(poly1305_limbs::finish(h, words_at(key, 16)))
 }
 
 // The tag of a message of any length.
@@ -117,9 +106,16 @@ pub fn poly1305(key: [u8; 32], message: &[u8]) -> [u8; 16]
 {
     let r = clamped(&key);
     let whole = absorb(nothing(), r, message);
-    let at = message.len() / 16 * 16;
-    let h = absorb_rest(whole, r, &message[at..]);
+    let (_, rest) = message.as_chunks::<16>();
+    let h = absorb_rest(whole, r, rest);
     finish(h, &key)
+}
+
+// The bits in which two tags differ, all gathered in one byte.
+fn differences(a: &[u8], b: &[u8]) -> u8
+    ensures { result ≡ fold gather 0 (zip a.now b.now) }
+{
+    a.iter().zip(b).fold(0, |d, (x, y)| d | (x ^ y))
 }
 
 // Whether two tags are the same. It looks at all bytes, whatever they are.
@@ -127,11 +123,5 @@ pub fn same_tag(a: [u8; 16], b: &[u8]) -> bool
     requires { length b.now ≡ 16 }
     ensures { result ≡ same_bytes a b.now }
 {
-    let mut d = 0u8;
-    let mut i = 0;
-    while i < 16 {
-        d = d | (a[i] ^ b[i]);
-        i += 1;
-    }
-    d == 0
+    differences(&a, b) == 0
 }

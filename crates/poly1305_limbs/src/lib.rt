@@ -35,6 +35,7 @@ pub struct Words {
 }
 
 // One column of a product.
+#[tactic(auto, using(crate::proofs::Bounds::products_small), unfolding(crate::specs::Columns::column))]
 fn column(h: Accumulator, y0: u64, y1: u64, y2: u64, y3: u64, y4: u64) -> u64
     requires { Wide h × (y0 ≤ 335544320) × (y1 ≤ 335544320) × (y2 ≤ 335544320) × (y3 ≤ 335544320) × (y4 ≤ 335544320) }
     ensures { (result ≡ column h y0 y1 y2 y3 y4) × (result ≤ 14411518807585587200) }
@@ -68,6 +69,7 @@ fn product(h: Accumulator, r: Multiplier) -> Accumulator
 }
 
 // The words of a block added.
+#[tactic(auto, using(crate::proofs::Bounds::plus_wide), unfolding(crate::specs::Columns::plus))]
 fn plus(h: Accumulator, n: Words, high: u64) -> Accumulator
     requires { Reduced h × Narrow n × (high ≤ 1) }
     ensures { (result ≡ plus h n high) × Wide result }
@@ -82,20 +84,16 @@ fn plus(h: Accumulator, n: Words, high: u64) -> Accumulator
 }
 
 // A small number added.
+#[tactic(auto, using(crate::proofs::Bounds::raised_carriable), unfolding(crate::specs::Columns::raised))]
 fn raised(h: Accumulator, x: u64) -> Accumulator
     requires { Wide h × (x ≤ 5) }
     ensures { (result ≡ raised h x) × Carriable result }
 {
-    Accumulator {
-        h0: h.h0 + x,
-        h1: h.h1,
-        h2: h.h2,
-        h3: h.h3,
-        h4: h.h4,
-    }
+    Accumulator { h0: h.h0 + x, ..h }
 }
 
 // The carries from word to word.
+#[tactic(auto, using(crate::proofs::Bounds::carried_whole), unfolding(crate::specs::Columns::carried))]
 fn carried(d: Accumulator) -> Accumulator
     requires { Carriable d }
     ensures { (result ≡ carried d) × Whole result }
@@ -113,16 +111,15 @@ fn carried(d: Accumulator) -> Accumulator
 }
 
 // The bits above 2^130 brought back.
+#[tactic(auto, using(crate::proofs::Bounds::folded_carriable), unfolding(crate::specs::Columns::folded))]
 fn folded(d: Accumulator) -> Accumulator
     requires { Whole d }
     ensures { (result ≡ folded d) × Carriable result }
 {
     Accumulator {
         h0: d.h0 + d.h4 / 4 * 5,
-        h1: d.h1,
-        h2: d.h2,
-        h3: d.h3,
         h4: d.h4 % 4,
+        ..d
     }
 }
 
@@ -136,6 +133,7 @@ pub fn step(h: Accumulator, r: Multiplier, n: Words, high: u64) -> Accumulator
 }
 
 // 1 if the number is at least the prime, 0 if not.
+#[tactic(auto, using(crate::proofs::Bounds::quotient_small), unfolding(crate::specs::Columns::quotient))]
 fn quotient(h: Accumulator) -> u64
     requires { Reduced h }
     ensures { (result ≡ quotient h) × (result ≤ 1) }

@@ -1,8 +1,7 @@
 -- Writes: of the same bytes said otherwise, and of three parts straight after each other.
-use Prim.Native.Nat.{ℕ, ◌+◌}
+use Prim.Native.Nat.{ℕ}
 use mathlib.Core.List.{List, ◌++◌}
 use mathlib.Core.Path.{◌≡◌, subst}
-use lib.ListN.{length, length-append}
 use Rattle.buffers.specs.Put.{Put}
 use Rattle.buffers.proofs.Writes.{put_next}
 
@@ -11,6 +10,3 @@ put_as {d} {e} {s} {t} {at} {r} same p = subst (λ (u : List ℕ). Put d e at u 
 
 pub put_three : {d e f g s t u : List ℕ} {at p q r : ℕ} → Put d e at s p → Put e f p t q → Put f g q u r → Put d g at (s ++ t ++ u) r
 put_three a b c = put_next (put_next a b) c
-
-pub three_length : (s t u : List ℕ) → length (s ++ t ++ u) ≡ length s + length t + length u
-three_length s t u = simp length-append

@@ -1,7 +1,7 @@
 // The parts of an envelope, written: its header, and the record of one label.
 #![tactic(auto)]
 
-ghost use Rattle.std.specs.Prelude.{◌+◌, ◌*◌, ◌≤◌, ◌<◌, length};
+ghost use Rattle.std.specs.Prelude.{◌++◌, ◌+◌, ◌*◌, ◌≤◌, ◌<◌, length};
 ghost use Rattle.buffers.specs.Put.{Put};
 ghost use Rattle.policy_file.specs.File.{name_of};
 ghost use Rattle.envelopes.specs.Envelope.{header, held_record, under_record};
@@ -9,15 +9,23 @@ ghost use Rattle.record_writer.specs.Either.{label_record};
 
 use format::{EN, KD, KS};
 
+// Writes three parts, one behind the other.
+fn put_parts(out: &mut [u8], at: usize, first: &[u8], second: &[u8], third: &[u8]) -> usize
+    requires { at + length (first.now ++ second.now ++ third.now) ≤ length out.old }
+    ensures { Put out.old out.new at (first.now ++ second.now ++ third.now) result }
+{
+    let behind = buffers::put_bytes(out, at, first);
+    let place = buffers::put_bytes(out, behind, second);
+    buffers::put_bytes(out, place, third)
+}
+
 // Writes the header from the buffer's start on.
 pub fn put_header(out: &mut [u8], account: u32, name: [u8; 8]) -> usize
     requires { length (header account name) ≤ length out.old }
     ensures { Put out.old out.new 0 (header account name) result }
 {
-    let number = [(account / 256 % 256) as u8, (account % 256) as u8];
-    let behind = buffers::put_bytes(out, 0, &EN);
-    let place = buffers::put_bytes(out, behind, &number);
-    buffers::put_bytes(out, place, &name)
+    let number = (account % 65536) as u16;
+    put_parts(out, 0, &EN, &number.to_be_bytes(), &name)
 }
 
 // Writes a `KS` record.
@@ -25,9 +33,7 @@ fn put_held(out: &mut [u8], at: usize, name: [u8; 8], secret: [u8; 32]) -> usize
     requires { at + length (held_record name secret) ≤ length out.old }
     ensures { Put out.old out.new at (held_record name secret) result }
 {
-    let behind = buffers::put_bytes(out, at, &KS);
-    let place = buffers::put_bytes(out, behind, &name);
-    buffers::put_bytes(out, place, &secret)
+    put_parts(out, at, &KS, &name, &secret)
 }
 
 // Writes a `KD` record.
@@ -35,10 +41,7 @@ fn put_under(out: &mut [u8], at: usize, name: [u8; 8], place: u8) -> usize
     requires { at + length (under_record name place) ≤ length out.old }
     ensures { Put out.old out.new at (under_record name place) result }
 {
-    let byte = [place];
-    let behind = buffers::put_bytes(out, at, &KD);
-    let end = buffers::put_bytes(out, behind, &name);
-    buffers::put_bytes(out, end, &byte)
+    put_parts(out, at, &KD, &name, &[place])
 }
 
 // Writes the record of label `m`: its secret if that is held, else its parent's place.
@@ -56,7 +59,8 @@ pub fn put_record(
 {
     let name = names::read_name(policy, 12 * m + 2);
     if held {
-        return put_held(out, at, name, secret);
+        put_held(out, at, name, secret)
+    } else {
+        put_under(out, at, name, place)
     }
-    put_under(out, at, name, place)
 }

@@ -9,13 +9,12 @@ ghost use Rattle.weights.specs.Tables.{entries};
 use buffers::Written;
 
 // Writes a count over that of label `l`, its most significant byte first.
+#[tactic(auto, unfolding(policy_file::specs::Counts::with_count))]
 fn put_count(file: &mut [u8], l: usize, count: u16)
     requires { 12 * l + 12 ≤ length file.old }
     ensures { file.new ≡ with_count file.old l count }
 {
-    let high = count / 256 % 256;
-    let low = count % 256;
-    buffers::put_bytes(file, 12 * l + 10, &[high as u8, low as u8]);
+    buffers::put_bytes(file, 12 * l + 10, &count.to_be_bytes());
 }
 
 // Writes counts over those of the first labels.
@@ -23,10 +22,8 @@ fn put_counts(file: &mut [u8], labels: usize, counts: [u16; 64])
     requires { (labels ≤ 64) × (12 * labels ≤ length file.old) }
     ensures { file.new ≡ recounted file.old (entries counts) labels }
 {
-    let mut l = 0;
-    while l < labels {
-        put_count(file, l, counts[l]);
-        l += 1;
+    for (l, count) in counts[..labels].iter().enumerate() {
+        put_count(file, l, *count);
     }
 }
 

@@ -1,51 +1,27 @@
 -- What a number means: as a line, and as a null-terminated text.
-use Prim.Native.Nat.{ℕ, zero, suc, ◌+◌, ◌-◌, ◌≤◌, ◌<◌}
+use Prim.Native.Nat.{ℕ, zero, suc, ◌-◌, ◌≤◌, ◌<◌}
 use Prim.Native.String.{String}
 use mathlib.Core.Bool.{Bool, true, ◌&&◌}
-use mathlib.Core.List.{List, [], ◌∷◌, ◌++◌, map, append_assoc}
-use mathlib.Core.Path.{◌≡◌, refl, sym, ap, ◌∙◌}
+use mathlib.Core.List.{List, [], ◌∷◌, ◌++◌}
+use mathlib.Core.Path.{◌≡◌, refl, ap}
 use native.Mathlib.Omega.{arith}
 use borrow.Author.Tests.{ltb-true, leb-true}
 use lib.Dec.{ltb, leb}
-use lib.ListN.{length, get_or, take, drop, replicate, length-append, take-append-drop, get_or-map, get_or-append, get_or-eq_default}
-use lib.Seq.{take_at, drop_at, length-take-le}
+use lib.ListN.{length, get_or, drop, replicate, get_or-eq_default}
+use lib.Seq.{drop_at}
 use Rattle.decimals.specs.Text.{bytes_of}
-use Rattle.decimals.specs.Worded.{newline}
 use Rattle.format.proofs.Bytes.{and_true}
 use Rattle.lists.proofs.Pasted.{copied, zero_filled_length, zero_filled_take}
 use Rattle.lists.specs.Buffer.{zero_filled}
-use Rattle.refusals.specs.Line.{line, first_line}
-use Rattle.refusals.specs.Refusals.{refusal_texts, refusal_words, table_lines, words_line, text_of, Terminated}
-use Rattle.refusals.proofs.FirstLine.{first_short, first_taken}
+use Rattle.refusals.specs.Refusals.{refusal_texts, refusal_words, text_of, Terminated}
 
 -- what numbers from 27 on mean
 abbrev other : String
 other = "no such refusal"
 
--- what is read by place within a list does not depend on what is read past its end
-within : (l : List (List ℕ)) (n : ℕ) (d e : List ℕ) → n < length l → get_or l n d ≡ get_or l n e
-within [] n d e h = absurd (omega arith)
-within (x ∷ l) zero d e h = refl
-within (x ∷ l) (suc n) d e h = within l n d e (omega arith)
-
--- a table of the lines
-module _ (rows : List (List ℕ)) (lines : map first_line rows ≡ table_lines) (number : ℕ) where
-  row : (n : ℕ) → first_line (get_or rows n []) ≡ get_or table_lines n []
-  unfolding first_line
-  row n = sym (get_or-map first_line rows n []) ∙ ap (λ (l : List (List ℕ)). get_or l n []) lines
-
-  pub row_line : number < 27 → first_line (get_or rows number []) ≡ words_line number
-  unfolding line table_lines words_line refusal_words refusal_texts
-  row_line h =
-      let texts = map line refusal_texts in
-      row number
-      ∙ get_or-append texts (words_line 27 ∷ []) [] number h
-      ∙ within texts number [] (line other) h
-      ∙ get_or-map line refusal_texts number other
-
-  pub last_line_lem : 27 ≤ number → first_line (get_or rows 27 []) ≡ words_line number
-  unfolding line table_lines words_line refusal_words refusal_texts
-  last_line_lem h = row 27 ∙ ap line (sym (get_or-eq_default refusal_texts other h))
+pub words_other : (number : ℕ) → 27 ≤ number → refusal_words number ≡ bytes_of other
+unfolding refusal_words refusal_texts
+words_other number h = ap bytes_of (get_or-eq_default refusal_texts other h)
 
 -- up to 79 bytes, and no byte is 0
 unfoldable no_zero : List ℕ → Bool
@@ -89,35 +65,14 @@ text_terminated number =
       zeros = drop_at s (replicate (80 - length s) 0) (length s) refl;
     }
 
--- the words are the line without its line feed
-module _ (number : ℕ) (text : List ℕ) (n : ℕ) (e : first_line text ≡ words_line number) (size : n ≡ length (first_line text)) where
-  pub words_length : n ≡ length (refusal_words number) + 1
-  unfolding words_line
-  words_length = size ∙ ap length e ∙ length-append (refusal_words number) newline
+-- the words copied over 80 zeros
+pub words_short : (number : ℕ) → length (refusal_words number) ≤ 79
+words_short number = (text_terminated number).short
 
-  pub words_within : n ≤ length text
-  words_within = omega (arith, first_short text)
+pub words_copied : (number : ℕ) {words copy : List ℕ} → words ≡ refusal_words number → copy ≡ words
+    → copy ++ drop (length words) (replicate 80 0) ≡ text_of number
+unfolding text_of zero_filled
+words_copied number e f = rw (f, e) (copied 80 (refusal_words number) (omega (arith, words_short number)))
 
-  pub words_taken : take (n - 1) text ≡ refusal_words number
-  unfolding words_line
-  words_taken =
-      let words = refusal_words number in
-      let parts : text ≡ words ++ (newline ++ drop n text) =
-      sym (take-append-drop n text)
-      ∙ ap (λ (l : List ℕ). l ++ drop n text) (first_taken text n size ∙ e)
-      ∙ append_assoc words newline (drop n text)
-      in
-      ap (λ (l : List ℕ). take (n - 1) l) parts ∙ take_at words (newline ++ drop n text) (n - 1) (omega (arith, words_length))
-
-  pub words_short : length (take (n - 1) text) ≤ 80
-  words_short = rw words_taken (omega (arith, (text_terminated number).short))
-
-  pub words_room : n - 1 ≤ 80
-  words_room = rw (length-take-le (n - 1) text (omega (arith, words_within))) at words_short
-
-  -- copied over 80 zeros
-  pub words_copied : {copy : List ℕ} → copy ≡ take (n - 1) text → copy ++ drop (n - 1) (replicate 80 0) ≡ text_of number
-  unfolding text_of zero_filled
-  words_copied h =
-      let size : n - 1 ≡ length (refusal_words number) = omega (arith, words_length) in
-      rw (h, words_taken, size) (copied 80 (refusal_words number) (rw words_taken at words_short))
+pub words_room : (number : ℕ) {words : List ℕ} → words ≡ refusal_words number → length words ≤ 80
+words_room number e = rw e (omega (arith, words_short number))

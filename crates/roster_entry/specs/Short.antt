@@ -1,5 +1,5 @@
 -- The records that have no name.
-use Rattle.std.specs.Prelude.{ℕ, cond, List, ltb}
+use Rattle.std.specs.Prelude.{◌≡◌, ℕ, ◌<◌, ◌≤◌, cond, List, ltb}
 use Rattle.format.specs.Bytes.{bytes_at, same_bytes}
 use Rattle.format.specs.Marks.{HD, RL, WD}
 use Rattle.roster_file.specs.File.{number_in}
@@ -14,3 +14,8 @@ short_entry file at left =
     (cond (same_bytes mark RL) (cond (ltb left 4) (Refused 3) (Release (number_in file at)))
     (cond (same_bytes mark WD) (cond (ltb left 4) (Refused 3) (Withdraw (number_in file at)))
     (Refused 2)))
+
+-- a record of so many bytes, of which so many are left: what is read of it, or a refusal where some are missing
+pub record Whole (size left : ℕ) (reads : Entry → Type 0) (entry : Entry) : Type 0 where
+  pub missing : left < size → entry ≡ Refused 3
+  pub whole : size ≤ left → reads entry

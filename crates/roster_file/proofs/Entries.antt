@@ -1,4 +1,5 @@
 -- One record of a roster file as it is read: which it is by its mark and its bytes, and which label it names.
+use Rattle.std.specs.Prelude.{None, Option, Some}
 use Prim.Native.Nat.{ℕ, ◌≤◌, ◌<◌}
 use mathlib.Core.Bool.{false}
 use mathlib.Core.List.{List, [], ◌∷◌}
@@ -12,15 +13,12 @@ use Rattle.format.proofs.Bytes.{same_refl, differ}
 use Rattle.format.proofs.Named.{NamedAt}
 use Rattle.format.specs.Bytes.{same_bytes}
 use Rattle.format.specs.Marks.{JN, MV, HD, RL, WD}
-use Rattle.format.specs.declared.Found.TheVariants.{At, Nothing}
-use Rattle.format.specs.declared.Found.{Found}
 use Rattle.policy_file.proofs.Names.{name_at, name_none, name_found_lem, name_new}
 use Rattle.policy_file.specs.File.{name_of, label_named}
-use Rattle.roster_file.specs.File.{number_in, name_in, target_of, target_in, marked_entry, entry_at}
+use Rattle.roster_file.specs.File.{number_in, name_in, target_in, marked_entry, entry_at}
 use Rattle.roster_file.specs.Rows.{bytes_left, mark_of, WholeJoin, WholeMove, WholeHold, WholeRelease, WholeWithdrawal, LabelWith, NoLabelWith, NoMark, single_byte, other_mark, CutShort, short_join, short_move, short_hold, short_release, short_withdrawal}
 use Rattle.roster_file.specs.declared.Entry.TheVariants.{Join, Move, Hold, Release, Withdraw, Refused}
 use Rattle.roster_file.specs.declared.Roster.{Roster}
-use Rattle.roster_file.specs.declared.Target.TheVariants.{Label, Missing}
 
 -- ---- the mark
 
@@ -114,20 +112,20 @@ module _ (policy : List ℕ) (labels : ℕ) (name : List ℕ) where
   pub label? : ((l : ℕ) × LabelWith policy labels name l) ⊎ NoLabelWith policy labels name
   label? = go (label_named policy labels name) refl
     where
-      go : (f : Found) → label_named policy labels name ≡ f → ((l : ℕ) × LabelWith policy labels name l) ⊎ NoLabelWith policy labels name
-      go (At k) e = inl (k, named_with (name_at policy name labels k e))
-      go Nothing e = inr (name_none policy name labels e)
+      go : (f : Option ℕ) → label_named policy labels name ≡ f → ((l : ℕ) × LabelWith policy labels name l) ⊎ NoLabelWith policy labels name
+      go (Some k) e = inl (k, named_with (name_at policy name labels k e))
+      go None e = inr (name_none policy name labels e)
 
-  found_is : {l : ℕ} → LabelWith policy labels name l → label_named policy labels name ≡ At l
+  found_is : {l : ℕ} → LabelWith policy labels name l → label_named policy labels name ≡ Some l
   found_is {l} a =
       let f = name_found_lem policy name labels l a.below a.here in
-      f.1 ∙ ap At (label_unique (named_with (name_at policy name labels f.0 f.1)) a)
+      f.1 ∙ ap Some (label_unique (named_with (name_at policy name labels f.0 f.1)) a)
 
 module _ (policy : List ℕ) (labels : ℕ) (file : List ℕ) (at : ℕ) where
-  pub target_label : {l : ℕ} → LabelWith policy labels (name_in file at) l → target_in policy labels file at ≡ Label l
+  pub target_label : {l : ℕ} → LabelWith policy labels (name_in file at) l → target_in policy labels file at ≡ Some l
   unfolding target_in
-  target_label a = ap target_of (found_is policy labels (name_in file at) a)
+  target_label a = found_is policy labels (name_in file at) a
 
-  pub target_missing : NoLabelWith policy labels (name_in file at) → target_in policy labels file at ≡ Missing
+  pub target_missing : NoLabelWith policy labels (name_in file at) → target_in policy labels file at ≡ None
   unfolding target_in
-  target_missing h = ap target_of (name_new policy (name_in file at) labels h)
+  target_missing h = name_new policy (name_in file at) labels h

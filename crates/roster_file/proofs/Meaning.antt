@@ -1,4 +1,5 @@
 -- One record with the roster in hand: what `asked_of` says of it is what the rows say in words.
+use Rattle.std.specs.Prelude.{None, Option, Some}
 use Prim.Native.Nat.{ℕ, ◌≤◌, ◌<◌}
 use mathlib.Core.Bool.{Bool, cond}
 use mathlib.Core.List.{List}
@@ -21,15 +22,13 @@ use Rattle.roster_file.specs.declared.Entry.{Entry}
 use Rattle.roster_file.specs.declared.Roster.{Roster}
 use Rattle.roster_file.specs.declared.Standing.TheVariants.{Unknown, Withdrawn, On}
 use Rattle.roster_file.specs.declared.Standing.{Standing}
-use Rattle.roster_file.specs.declared.Target.TheVariants.{Label, Missing}
-use Rattle.roster_file.specs.declared.Target.{Target}
 
 -- a join of a number that is out of range, whether or not a label has the name, and of one that is used already
-pub join_out : (number : ℕ) (target : Target) → OutOfRange number → joining number target Unknown ≡ refuses 24
-join_out number Missing r = ap (λ (t : Bool). cond t (refuses 13) (refuses 24)) (number_out number r)
-join_out number (Label l) r = ap (λ (t : Bool). cond t (sets (On l Active)) (refuses 24)) (number_out number r)
+pub join_out : (number : ℕ) (target : Option ℕ) → OutOfRange number → joining number target Unknown ≡ refuses 24
+join_out number None r = ap (λ (t : Bool). cond t (refuses 13) (refuses 24)) (number_out number r)
+join_out number (Some l) r = ap (λ (t : Bool). cond t (sets (On l Active)) (refuses 24)) (number_out number r)
 
-pub join_used : (number : ℕ) (target : Target) (s : Standing) → s ≢ Unknown → joining number target s ≡ refuses 24
+pub join_used : (number : ℕ) (target : Option ℕ) (s : Standing) → s ≢ Unknown → joining number target s ≡ refuses 24
 join_used number target Unknown ne = absurd (ne refl)
 join_used number target Withdrawn ne = refl
 join_used number target (On l activity) ne = refl
@@ -41,7 +40,7 @@ module _ (policy : List ℕ) (labels : ℕ) (file : List ℕ) (at : ℕ) (roster
   abbrev pub number : ℕ
   number = number_in file at
 
-  abbrev pub target : Target
+  abbrev pub target : Option ℕ
   target = target_in policy labels file at
 
   abbrev pub stands : Standing
@@ -91,7 +90,7 @@ module _ (policy : List ℕ) (labels : ℕ) (file : List ℕ) (at : ℕ) (roster
       asked (Join number target) (entry_join policy labels file at w) Unknown e ∙ rw (number_in_lem number r, target_label policy labels file at a)
   record_asked_lem (moves {m = m} {activity} w e a) =
       asked (Move number target) (entry_move policy labels file at w) (On m activity) e
-      ∙ ap (λ (t : Target). moving t (On m activity)) (target_label policy labels file at a)
+      ∙ ap (λ (t : Option ℕ). moving t (On m activity)) (target_label policy labels file at a)
   record_asked_lem (holds {l} {activity} w e) = asked (Hold number) (entry_hold policy labels file at w) (On l activity) e
   record_asked_lem (releases {l} {activity} w e) = asked (Release number) (entry_release policy labels file at w) (On l activity) e
   record_asked_lem (withdraws {l} {activity} w e) = asked (Withdraw number) (entry_withdrawal policy labels file at w) (On l activity) e

@@ -1,15 +1,11 @@
 -- Where things stand in a roster file (02, Ask 4): "`JN` number name, `MV` number name, `HD` number, `RL` number and `WD` number (join, move, hold,
 -- release, withdraw). Numbers are 2 bytes". A record is named by the byte at which it starts.
-use Rattle.std.specs.Prelude.{ℕ, ◌+◌, ◌-◌, cond, List, ltb, length}
+use Rattle.std.specs.Prelude.{ℕ, Option, ◌+◌, ◌-◌, cond, List, ltb, length}
 use Rattle.format.specs.Bytes.{bytes_at, same_bytes, number_at}
 use Rattle.format.specs.Marks.{JN, MV, HD, RL, WD}
-use Rattle.format.specs.declared.Found.TheVariants.{At, Nothing}
-use Rattle.format.specs.declared.Found.{Found}
 use Rattle.policy_file.specs.File.{label_named}
 use Rattle.roster_file.specs.declared.Entry.TheVariants.{Join, Move, Hold, Release, Withdraw, Refused}
 use Rattle.roster_file.specs.declared.Entry.{Entry}
-use Rattle.roster_file.specs.declared.Target.TheVariants.{Label, Missing}
-use Rattle.roster_file.specs.declared.Target.{Target}
 
 -- the account's number: 2 bytes after the mark
 abbrev pub number_in : List ℕ → (at : ℕ) → ℕ
@@ -19,14 +15,9 @@ number_in file at = number_at file (at + 2)
 abbrev pub name_in : List ℕ → (at : ℕ) → List ℕ
 name_in file at = bytes_at file (at + 4) 8
 
--- the label that was found, if one was
-abbrev pub target_of : Found → Target
-target_of (At l) = Label l
-target_of Nothing = Missing
-
--- the label of the policy that the record names
-unfoldable pub target_in : (policy : List ℕ) (labels : ℕ) → List ℕ → (at : ℕ) → Target
-target_in policy labels file at = target_of (label_named policy labels (name_in file at))
+-- the label of the policy that the record names, if one has the name
+unfoldable pub target_in : (policy : List ℕ) (labels : ℕ) → List ℕ → (at : ℕ) → Option ℕ
+target_in policy labels file at = label_named policy labels (name_in file at)
 
 -- a record by its mark, with `left` bytes from its start on: 2, "a mark not belonging to this file"; 3, "record cut short", that is, under 12 bytes for
 -- `JN` and `MV` and under 4 for the others

@@ -1,6 +1,6 @@
 -- The machine of 02, Ask 4: what a record does to its account, and so to the roster. "An account is unknown, withdrawn, or on a label and either active
 -- or held."
-use Rattle.std.specs.Prelude.{ℕ, ◌-◌, Bool, cond, ◌&&◌, leb, get_or, set, replicate}
+use Rattle.std.specs.Prelude.{ℕ, ◌-◌, Bool, cond, ◌&&◌, leb, get_or, set, replicate, None, Option, Some}
 use Rattle.roster_file.specs.declared.Account.{Account}
 use Rattle.roster_file.specs.declared.Activity.TheVariants.{Active, Held}
 use Rattle.roster_file.specs.declared.Entry.TheVariants.{Join, Move, Hold, Release, Withdraw, Refused}
@@ -8,8 +8,6 @@ use Rattle.roster_file.specs.declared.Entry.{Entry}
 use Rattle.roster_file.specs.declared.Roster.{Roster}
 use Rattle.roster_file.specs.declared.Standing.TheVariants.{Unknown, Withdrawn, On}
 use Rattle.roster_file.specs.declared.Standing.{Standing}
-use Rattle.roster_file.specs.declared.Target.TheVariants.{Label, Missing}
-use Rattle.roster_file.specs.declared.Target.{Target}
 
 -- ---- one account
 
@@ -23,18 +21,18 @@ unfoldable pub is_number : ℕ → Bool
 is_number number = leb 1 number && leb number 4096
 
 -- "A join or a move sets it active on the named label."; 13, "name asked for is not in the policy"
-abbrev pub placing : Target → Change
-placing (Label l) = sets (On l Active)
-placing Missing = refuses 13
+abbrev pub placing : Option ℕ → Change
+placing (Some l) = sets (On l Active)
+placing None = refuses 13
 
 -- `JN`; "24: join with a number out of 1 to 4,096 or already used, even if withdrawn."
-abbrev pub joining : (number : ℕ) → Target → Standing → Change
+abbrev pub joining : (number : ℕ) → Option ℕ → Standing → Change
 joining number target Unknown = cond (is_number number) (placing target) (refuses 24)
 joining number target Withdrawn = refuses 24
 joining number target (On l activity) = refuses 24
 
 -- `MV`; "25: other record for an account unknown or withdrawn."
-abbrev pub moving : Target → Standing → Change
+abbrev pub moving : Option ℕ → Standing → Change
 moving target Unknown = refuses 25
 moving target Withdrawn = refuses 25
 moving target (On l activity) = placing target

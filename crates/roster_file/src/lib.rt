@@ -27,18 +27,11 @@ pub struct Roster {
     pub accounts: [Account; 4096],
 }
 
-// The label that a record names, or that no label has the name.
-#[derive(Clone, Copy)]
-pub enum Target {
-    Label(u8),
-    Missing,
-}
-
 // One record of a roster file: what it says and of which account, or a refusal with its number.
 #[derive(Clone, Copy)]
 pub enum Entry {
-    Join(u16, Target),
-    Move(u16, Target),
+    Join(u16, Option<u8>),
+    Move(u16, Option<u8>),
     Hold(u16),
     Release(u16),
     Withdraw(u16),

@@ -14,29 +14,25 @@ use roster_file::{Roster, Standing};
 pub fn issuer_key_roster(policy: &[u8], roster: &[u8], name: &[u8], root: &[u8]) -> IssuerKey
     ensures { result ≡ roster_key policy.now roster.now name.now root.now }
 {
-    let mut counted = [0u8; 2816];
-    let written = rosters::count_policy(policy, roster, &mut counted);
-    if written.refusal != 0 {
-        return issuer_keys::refuse_key(written.refusal);
-    }
-    issuer_keys::issuer_key(&counted[..written.length], name, root)
+    rosters::on_counted(policy, roster, |counted| {
+        issuer_keys::issuer_key(counted, name, root)
+    })
+    .unwrap_or_else(issuer_keys::refuse_key)
 }
 
 // How the account of a number stands.
+#[tactic(auto, unfolding(roster_file::specs::Machine::standing_of, roster_file::specs::Machine::is_number))]
 fn standing_of(roster: Roster, number: u32) -> Standing
     ensures { result ≡ standing_of roster number }
 {
-    if number < 1 {
-        return Standing::Unknown;
+    match number {
+        1..=4096 => roster.accounts[number as usize - 1].standing,
+        _ => Standing::Unknown,
     }
-    if 4096 < number {
-        return Standing::Unknown;
-    }
-    let account = roster.accounts[number as usize - 1];
-    account.standing
 }
 
-// Writes the envelope of an account of the roster at the label asked for, or nothing if it is refused.
+// Writes the envelope of an account of the roster at the label asked for, or nothing if it is refused. It needs the roster beside the policy
+// with its counts, which `write_counted` does not hand on.
 pub fn issue_roster(
     policy: &[u8],
     roster: &[u8],
@@ -78,10 +74,7 @@ pub fn seal_roster(
 ) -> Written
     ensures { (result ≡ roster_sealed policy.now roster.now name.now root.now nonce.now text.now (length out.old)) × (out.new ≡ roster_file_after policy.now roster.now name.now root.now nonce.now text.now out.old) }
 {
-    let mut counted = [0u8; 2816];
-    let written = rosters::count_policy(policy, roster, &mut counted);
-    if written.refusal != 0 {
-        return buffers::refuse(written.refusal);
-    }
-    sealing::seal(&counted[..written.length], name, root, nonce, text, out)
+    rosters::write_counted(policy, roster, out, |counted, out| {
+        sealing::seal(counted, name, root, nonce, text, out)
+    })
 }

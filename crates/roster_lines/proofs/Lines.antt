@@ -1,10 +1,16 @@
 -- The lines of accounts and labels, one more with each turn of a loop.
-use Prim.Native.Nat.{ℕ, ◌+◌, ◌*◌, ◌≤◌, ◌<◌}
-use mathlib.Core.List.{List, [], ◌++◌}
+use Prim.Native.Nat.{ℕ, zero, suc, ◌+◌, ◌*◌, ◌≤◌, ◌<◌}
+use mathlib.Core.List.{List, [], ◌∷◌, ◌++◌}
 use mathlib.Core.Path.{◌≡◌, refl, sym, ap, ap₂, ◌∙◌}
 use native.Mathlib.Numerals.{add-one}
+use Rattle.std.proofs.Common.{zero-add}
 use native.Mathlib.Omega.{arith}
-use lib.ListN.{length, get_or}
+use lib.ListN.{length, get_or, take}
+use lib.Seq.{take-suc}
+use Rattle.std.specs.List.{sum as sum_of}
+use Rattle.std.proofs.lemmas.List.Sums.{sum_by-append}
+use Rattle.trees.specs.Sums.{sum}
+use Rattle.weights.specs.Tables.{entries}
 use Rattle.buffers.specs.Put.{Put}
 use Rattle.decimals.specs.Worded.{worded}
 use Rattle.format.specs.Names.{unpadded}
@@ -53,3 +59,10 @@ module _ (policy : List ℕ) where
   pub count_line_lem : (count : ℕ → ℕ) (l : ℕ) {x : ℕ} → x ≡ count l → worded (unpadded (name_of policy l)) x ≡ count_line policy count l
   unfolding count_line
   count_line_lem count l e = ap (worded (unpadded (name_of policy l))) e
+
+-- the first n entries of a table, as a list and as a function
+pub sum_first : (table : List ℕ) (n : ℕ) → n ≤ length table → sum_of (take n table) ≡ sum (entries table) n
+unfolding sum
+sum_first table zero h = refl
+sum_first table (suc n) h =
+    rw (take-suc table n 0 (omega arith), sum_by-append (λ (x : ℕ). x) (take n table) (get_or table n 0 ∷ [])) (ap₂ ◌+◌ (sum_first table n (omega arith)) (zero-add (get_or table n 0)))

@@ -1,7 +1,7 @@
 // A roster as text: a line for each account that is not unknown, a line for each label, and the sum of all accounts.
 #![tactic(auto)]
 
-ghost use Rattle.std.specs.Prelude.{◌++◌, ◌≡◌, ◌+◌, ◌*◌, ◌≤◌, ◌<◌, length};
+ghost use Rattle.std.specs.Prelude.{◌++◌, ◌≡◌, ◌+◌, ◌*◌, ◌≤◌, ◌<◌, length, sum as sum_of};
 ghost use Rattle.buffers.specs.Put.{Put};
 ghost use Rattle.decimals.specs.Worded.{space, worded};
 ghost use Rattle.format.specs.Names.{unpadded};
@@ -68,11 +68,12 @@ fn put_account(policy: &[u8], number: u32, account: Account, out: &mut [u8], at:
     requires { HasName policy.now account.standing × (at + length (account_line policy.now number account.standing) ≤ length out.old) }
     ensures { Put out.old out.new at (account_line policy.now number account.standing) result }
 {
-    let standing = account.standing;
-    match standing {
+    match account.standing {
         Standing::Unknown => at,
         Standing::Withdrawn => put_withdrawn(policy, number, out, at),
-        Standing::On(l, activity) => put_placed(policy, number, l as usize, activity, out, at),
+        Standing::On(l, activity) => {
+            put_placed(policy, number, usize::from(l), activity, out, at)
+        }
     }
 }
 
@@ -82,10 +83,8 @@ fn put_accounts(policy: &[u8], roster: Roster, out: &mut [u8]) -> usize
     ensures { Put out.old out.new 0 (concat_below (line_at policy.now roster) 4096) result }
 {
     let mut at = 0;
-    let mut i = 0;
-    while i < 4096 {
-        at = put_account(policy, i as u32 + 1, roster.accounts[i], out, at);
-        i += 1;
+    for (i, account) in roster.accounts.iter().enumerate() {
+        at = put_account(policy, i as u32 + 1, *account, out, at);
     }
     at
 }
@@ -112,27 +111,18 @@ fn put_counts(
     ensures { Put out.old out.new start (concat_below (count_line policy.now (entries counts)) labels) result }
 {
     let mut at = start;
-    let mut l = 0;
-    while l < labels {
-        let count = weights::accounts(counts[l]);
-        at = put_count(policy, l, count, out, at);
-        l += 1;
+    for (l, count) in counts[..labels].iter().enumerate() {
+        at = put_count(policy, l, u32::from(*count), out, at);
     }
     at
 }
 
-// The accounts of all labels.
-fn sum_counts(counts: [u16; 64], labels: usize) -> u32
-    requires { labels ≤ 64 }
-    ensures { result ≡ sum (entries counts) labels }
+// The accounts of these labels.
+fn sum_counts(counts: &[u16]) -> u32
+    requires { length counts.now ≤ 64 }
+    ensures { result ≡ sum_of counts.now }
 {
-    let mut total: u32 = 0;
-    let mut l = 0;
-    while l < labels {
-        total += weights::accounts(counts[l]);
-        l += 1;
-    }
-    total
+    counts.iter().map(|count| u32::from(*count)).sum()
 }
 
 // Writes the last line, with the accounts of all labels.
@@ -140,7 +130,7 @@ fn put_total(counts: [u16; 64], labels: usize, out: &mut [u8], at: usize) -> usi
     requires { (labels ≤ 64) × (at + length (worded total_word (sum (entries counts) labels)) ≤ length out.old) }
     ensures { Put out.old out.new at (worded total_word (sum (entries counts) labels)) result }
 {
-    let total = sum_counts(counts, labels);
+    let total = sum_counts(&counts[..labels]);
     decimals::put_worded(out, at, b"TOTAL", total)
 }
 

@@ -11,34 +11,21 @@ use plan_answers::{Plan, Weighed};
 pub fn plan_roster(policy: &[u8], roster: &[u8]) -> Plan
     ensures { result ≡ roster_plan policy.now roster.now }
 {
-    let mut counted = [0u8; 2816];
-    let written = rosters::count_policy(policy, roster, &mut counted);
-    if written.refusal != 0 {
-        return plans::refused_plan(written.refusal);
-    }
-    planner::plan_policy(&counted[..written.length])
+    rosters::on_counted(policy, roster, planner::plan_policy).unwrap_or_else(plans::refused_plan)
 }
 
 // The weighing of an offered tree, by the counts of a roster.
 pub fn weigh_roster(policy: &[u8], roster: &[u8], tree: &[u8]) -> Weighed
     ensures { result ≡ roster_weighed policy.now roster.now tree.now }
 {
-    let mut counted = [0u8; 2816];
-    let written = rosters::count_policy(policy, roster, &mut counted);
-    if written.refusal != 0 {
-        return weighing::refused(written.refusal);
-    }
-    weighing::weigh(&counted[..written.length], tree)
+    rosters::on_counted(policy, roster, |counted| weighing::weigh(counted, tree)).unwrap_or_else(
+        weighing::refused,
+    )
 }
 
 // What one more account costs, by the counts of a roster.
 pub fn growth_roster(policy: &[u8], roster: &[u8]) -> Growth
     ensures { result ≡ roster_growth policy.now roster.now }
 {
-    let mut counted = [0u8; 2816];
-    let written = rosters::count_policy(policy, roster, &mut counted);
-    if written.refusal != 0 {
-        return costs::refused_growth(written.refusal);
-    }
-    growth::growth_policy(&counted[..written.length])
+    rosters::on_counted(policy, roster, growth::growth_policy).unwrap_or_else(costs::refused_growth)
 }

@@ -1,4 +1,5 @@
 -- Laws of the reading of a roster file, turn by turn: what holds of the place that reading has come to and of the roster in hand there.
+use Rattle.std.specs.Prelude.{None, Option, Some}
 use Prim.Native.Nat.{ℕ, zero, suc, ◌+◌, ◌-◌, ◌≤◌, ◌<◌}
 use mathlib.Core.Bool.{Bool, true, false, cond, false≢true}
 use mathlib.Core.List.{List}
@@ -17,8 +18,6 @@ use Rattle.roster_file.specs.declared.Roster.{Roster}
 use Rattle.roster_file.specs.declared.Standing.TheVariants.{Unknown, Withdrawn, On}
 use Rattle.roster_file.specs.declared.Standing.{Standing}
 use Rattle.roster_file.specs.declared.Stop.{Stop}
-use Rattle.roster_file.specs.declared.Target.TheVariants.{Label, Missing}
-use Rattle.roster_file.specs.declared.Target.{Target}
 use Rattle.roster_reading.specs.Place.{goes_on, place_after}
 
 -- ---- what a record asks for
@@ -32,9 +31,9 @@ either : (size : ℕ) (b : Bool) (x y : Change) → Sound size x → Sound size 
 either size true x y f g = f
 either size false x y f g = g
 
-placing_sound : (size : ℕ) → 4 ≤ size → (target : Target) → Sound size (placing target)
-placing_sound size h (Label l) = h
-placing_sound size h Missing = omega arith
+placing_sound : (size : ℕ) → 4 ≤ size → (target : Option ℕ) → Sound size (placing target)
+placing_sound size h (Some l) = h
+placing_sound size h None = omega arith
 
 asking_sound : (left : ℕ) (entry : Entry) → Fits left entry → (s : Standing) → Sound (size_of entry) (asking entry s)
 asking_sound left (Join number target) h Unknown = either 12 (is_number number) (placing target) (refuses 24) (placing_sound 12 (omega arith) target) (omega arith)
@@ -59,6 +58,16 @@ unfolding asked_of
 asked_sound left entry h roster = asking_sound left entry h (standing_of roster (account_of entry))
 
 -- ---- the loop
+
+-- a record that was not refused leads to the byte after it
+pub passed_after : (entry : Entry) (refusal at : ℕ) → refusal ≡ 0 → at + size_of entry ≡ place_after entry refusal at
+unfolding place_after
+passed_after entry refusal at e = rw (eq-eqb refusal 0 e) refl
+
+-- and one that was refused stays where reading is
+pub refused_after : (entry : Entry) (refusal at : ℕ) → (refusal ≡ 0 → ⊥) → at ≡ place_after entry refusal at
+unfolding place_after
+refused_after entry refusal at e = rw (ne_eqb refusal 0 e) refl
 
 -- whether reading goes on, by the test that led there
 pub goes_on_to_end : (file : List ℕ) (refusal at : ℕ) → refusal ≡ 0 → ltb at (length file) ≡ goes_on file refusal at

@@ -1,11 +1,10 @@
 // A roster file, record by record: the roster in hand is lent to each record and altered there.
 #![tactic(auto)]
 
-ghost use Rattle.std.specs.Prelude.{◌≡◌, ◌+◌, ◌*◌, ◌^◌, ◌≤◌, ◌<◌, length};
-ghost use Rattle.roster_file.specs.File.{size_of};
+ghost use Rattle.std.specs.Prelude.{◌≡◌, ◌*◌, ◌≤◌, ◌<◌, length};
 ghost use Rattle.roster_file.specs.Machine.{empty_roster, number_of, asked_of, changed, account_of};
 ghost use Rattle.roster_file.specs.Whole.{read_from, stop_of};
-ghost use Rattle.roster_reading.specs.Place.{goes_on, place_after, stop_at};
+ghost use Rattle.roster_reading.specs.Place.{stop_at};
 
 use roster_file::{Account, Entry, Roster, Standing, Stop};
 
@@ -22,50 +21,31 @@ pub fn obey(roster: &mut Roster, entry: Entry) -> u8
         × (roster.new ≡ changed roster.old (account_of entry) (asked_of roster.old entry)) }
 {
     match entry {
-        Entry::Join(number, target) => return roster_records::join(roster, number, target),
-        Entry::Move(number, target) => return roster_records::move_to(roster, number, target),
-        Entry::Hold(number) => return roster_records::hold(roster, number),
-        Entry::Release(number) => return roster_records::release(roster, number),
-        Entry::Withdraw(number) => return roster_records::withdraw(roster, number),
-        Entry::Refused(n) => return n,
+        Entry::Join(number, target) => roster_records::join(roster, number, target),
+        Entry::Move(number, target) => roster_records::move_to(roster, number, target),
+        Entry::Hold(number) => roster_records::hold(roster, number),
+        Entry::Release(number) => roster_records::release(roster, number),
+        Entry::Withdraw(number) => roster_records::withdraw(roster, number),
+        Entry::Refused(n) => n,
     }
 }
 
-// Whether a record is read at this place: none was refused, and the file goes on.
-fn goes_on(refusal: u8, at: usize, file: &[u8]) -> bool
-    ensures { result ≡ goes_on file.now refusal at }
-{
-    if refusal == 0 {
-        return at < file.len();
-    }
-    false
-}
-
-// The byte after a record, or its own if it was refused.
-fn place_after(entry: Entry, refusal: u8, at: usize) -> usize
-    requires { at + size_of entry < 2 ^ 64 }
-    ensures { result ≡ place_after entry refusal at }
-{
-    if refusal == 0 {
-        return at + roster_entry::entry_size(entry);
-    }
-    at
-}
-
-// The records of a file, one after another; stops at the first that is refused.
+// The records of a file, one after another; stops at the first that is refused. The place moves by the size of each record, which no iterator gives.
 fn read_records(roster: &mut Roster, policy: &[u8], labels: usize, file: &[u8]) -> Place
     requires { (12 * labels ≤ length policy.now) × (labels ≤ 64) }
     ensures { stop_at result roster.new
         ≡ read_from (length file.now) policy.now labels file.now 0 roster.old }
 {
-    let mut refusal: u8 = 0;
-    let mut at: usize = 0;
-    while goes_on(refusal, at, file) {
+    let mut at = 0;
+    while at < file.len() {
         let entry = roster_entry::read_entry(policy, labels, file, at);
-        refusal = obey(roster, entry);
-        at = place_after(entry, refusal, at);
+        let refusal = obey(roster, entry);
+        if refusal != 0 {
+            return Place { refusal, at };
+        }
+        at += roster_entry::entry_size(entry);
     }
-    Place { refusal, at }
+    Place { refusal: 0, at }
 }
 
 // Where the reading of a roster file stops, with the names of so many labels of a policy.
@@ -79,7 +59,7 @@ pub fn read_roster(policy: &[u8], labels: usize, file: &[u8]) -> Stop
 }
 
 // No account is known.
-fn empty() -> Roster
+pub fn empty() -> Roster
     ensures { result ≡ empty_roster }
 {
     let unknown = Account {

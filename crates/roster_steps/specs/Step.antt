@@ -1,8 +1,8 @@
 -- One account of the roster by value: where it stands in the array, how a record sees it, and what is handed back.
-use Rattle.std.specs.Prelude.{ℕ, ◌-◌, cond}
+use Rattle.std.specs.Prelude.{◌≡◌, ℕ, ◌-◌, cond}
 use Rattle.roster_file.specs.Machine.{Change, sets, refuses, is_number, standing_so}
 use Rattle.roster_file.specs.declared.Account.{Account}
-use Rattle.roster_file.specs.declared.Standing.TheVariants.{Unknown}
+use Rattle.roster_file.specs.declared.Standing.TheVariants.{Unknown, Withdrawn, On}
 use Rattle.roster_file.specs.declared.Standing.{Standing}
 use Rattle.roster_file.specs.declared.Stepped.{Stepped}
 
@@ -22,3 +22,9 @@ stands_so s = record { refusal = 0; account = standing_so s }
 abbrev pub stepped_by : Account → Change → Stepped
 stepped_by account (sets s) = stands_so s
 stepped_by account (refuses n) = record { refusal = n; account = account }
+
+-- what is handed back for a step that needs a label: what the step answers of an account's label, and else a refusal
+abbrev pub OnLabel : Account → (ℕ → Stepped → Type 0) → Standing → Stepped → Type 0
+OnLabel account step Unknown r = r ≡ stepped_by account (refuses 25)
+OnLabel account step Withdrawn r = r ≡ stepped_by account (refuses 25)
+OnLabel account step (On l activity) r = step l r

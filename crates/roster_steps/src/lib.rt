@@ -3,38 +3,40 @@
 
 ghost use Rattle.std.specs.Prelude.{◌≡◌, ◌<◌};
 ghost use Rattle.roster_file.specs.Machine.{refuses, is_number, placing, joining, moving, holding, releasing, withdrawing};
-ghost use Rattle.roster_steps.specs.Step.{place_of, seen_as, stands_so, stepped_by};
+ghost use Rattle.roster_steps.specs.Step.{place_of, seen_as, stands_so, stepped_by, OnLabel};
 
-use roster_file::{Account, Activity, Standing, Stepped, Target};
+use roster_file::{Account, Activity, Standing, Stepped};
 
 // Whether there is an account `number`.
+#[tactic(auto, unfolding(roster_file::specs::Machine::is_number))]
 fn is_number(number: u16) -> bool
     ensures { result ≡ is_number number }
 {
-    if number < 1 {
-        return false;
-    }
-    number <= 4096
+    (1..=4096).contains(&number)
 }
 
 // Where account `number` stands in the array; the first place for a number that has no account.
+#[tactic(auto, unfolding(crate::specs::Step::place_of, roster_file::specs::Machine::is_number))]
 pub fn place(number: u16) -> usize
     ensures { (result ≡ place_of number) × (result < 4096) }
 {
     if is_number(number) {
-        return number as usize - 1;
+        usize::from(number) - 1
+    } else {
+        0
     }
-    0
 }
 
 // How account `number` stands, `account` being what stands at its place.
+#[tactic(auto, unfolding(crate::specs::Step::seen_as))]
 fn seen(account: Account, number: u16) -> Standing
     ensures { result ≡ seen_as number account }
 {
     if is_number(number) {
-        return account.standing;
+        account.standing
+    } else {
+        Standing::Unknown
     }
-    Standing::Unknown
 }
 
 // The account stands so from here on.
@@ -55,73 +57,56 @@ fn refused(account: Account, refusal: u8) -> Stepped
 }
 
 // Active on the label that the record names, if there is one.
-fn placed(account: Account, target: Target) -> Stepped
+fn placed(account: Account, target: Option<u8>) -> Stepped
     ensures { result ≡ stepped_by account (placing target) }
 {
     match target {
-        Target::Label(l) => set(Standing::On(l, Activity::Active)),
-        Target::Missing => refused(account, 13),
+        Some(l) => set(Standing::On(l, Activity::Active)),
+        None => refused(account, 13),
+    }
+}
+
+// `MV`, `HD`, `RL` and `WD`: the account has to be on a label, which the step is told.
+fn on_label<F: FnOnce(u8) -> Stepped>(account: Account, number: u16, step: F) -> Stepped
+    requires { F.IsAlwaysCallable step }
+    ensures { OnLabel account (F.post step) (seen_as number account) result }
+{
+    match seen(account, number) {
+        Standing::On(l, _) => step(l),
+        Standing::Unknown | Standing::Withdrawn => refused(account, 25),
     }
 }
 
 // `JN`: the account's number has to be new.
-pub fn joined(account: Account, number: u16, target: Target) -> Stepped
+pub fn joined(account: Account, number: u16, target: Option<u8>) -> Stepped
     ensures { result ≡ stepped_by account (joining number target (seen_as number account)) }
 {
-    let standing = seen(account, number);
-    match standing {
-        Standing::Unknown => {
-            if is_number(number) {
-                return placed(account, target);
-            }
-            refused(account, 24)
-        }
-        Standing::Withdrawn => refused(account, 24),
-        Standing::On(_, _) => refused(account, 24),
+    match seen(account, number) {
+        Standing::Unknown if is_number(number) => placed(account, target),
+        _ => refused(account, 24),
     }
 }
 
-// `MV`, `HD`, `RL` and `WD`: the account has to be on a label.
-pub fn moved(account: Account, number: u16, target: Target) -> Stepped
+pub fn moved(account: Account, number: u16, target: Option<u8>) -> Stepped
     ensures { result ≡ stepped_by account (moving target (seen_as number account)) }
 {
-    let standing = seen(account, number);
-    match standing {
-        Standing::Unknown => refused(account, 25),
-        Standing::Withdrawn => refused(account, 25),
-        Standing::On(_, _) => placed(account, target),
-    }
+    on_label(account, number, |_| placed(account, target))
 }
 
 pub fn held(account: Account, number: u16) -> Stepped
     ensures { result ≡ stepped_by account (holding (seen_as number account)) }
 {
-    let standing = seen(account, number);
-    match standing {
-        Standing::Unknown => refused(account, 25),
-        Standing::Withdrawn => refused(account, 25),
-        Standing::On(l, _) => set(Standing::On(l, Activity::Held)),
-    }
+    on_label(account, number, |l| set(Standing::On(l, Activity::Held)))
 }
 
 pub fn released(account: Account, number: u16) -> Stepped
     ensures { result ≡ stepped_by account (releasing (seen_as number account)) }
 {
-    let standing = seen(account, number);
-    match standing {
-        Standing::Unknown => refused(account, 25),
-        Standing::Withdrawn => refused(account, 25),
-        Standing::On(l, _) => set(Standing::On(l, Activity::Active)),
-    }
+    on_label(account, number, |l| set(Standing::On(l, Activity::Active)))
 }
 
 pub fn withdrawn(account: Account, number: u16) -> Stepped
     ensures { result ≡ stepped_by account (withdrawing (seen_as number account)) }
 {
-    let standing = seen(account, number);
-    match standing {
-        Standing::Unknown => refused(account, 25),
-        Standing::Withdrawn => refused(account, 25),
-        Standing::On(_, _) => set(Standing::Withdrawn),
-    }
+    on_label(account, number, |_| set(Standing::Withdrawn))
 }

@@ -4,7 +4,7 @@
 ghost use Rattle.std.specs.Prelude.{◌≡◌, ◌*◌, ◌≤◌, length};
 ghost use Rattle.roster_answers.specs.Records.{records_before, roster_records_read};
 
-// The records that start before byte `end`.
+// The records that start before byte `end`. The place moves by the size of each record, which no iterator gives.
 fn count_records(policy: &[u8], labels: usize, file: &[u8], end: usize) -> usize
     requires { (12 * labels ≤ length policy.now) × (labels ≤ 64) }
     ensures { result ≡ records_before (length file.now) policy.now labels file.now end 0 }

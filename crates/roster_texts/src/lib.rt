@@ -10,34 +10,19 @@ use buffers::Written;
 pub fn plan_text_roster(policy: &[u8], roster: &[u8], out: &mut [u8]) -> Written
     ensures { (result ≡ roster_text_written policy.now roster.now (length out.old)) × (out.new ≡ roster_text_after policy.now roster.now out.old) }
 {
-    let mut counted = [0u8; 2816];
-    let written = rosters::count_policy(policy, roster, &mut counted);
-    if written.refusal != 0 {
-        return buffers::refuse(written.refusal);
-    }
-    text::plan_text(&counted[..written.length], out)
+    rosters::write_counted(policy, roster, out, text::plan_text)
 }
 
 // The plan's drawing.
 pub fn plan_dot_roster(policy: &[u8], roster: &[u8], out: &mut [u8]) -> Written
     ensures { (result ≡ roster_drawing_written policy.now roster.now (length out.old)) × (out.new ≡ roster_drawing_after policy.now roster.now out.old) }
 {
-    let mut counted = [0u8; 2816];
-    let written = rosters::count_policy(policy, roster, &mut counted);
-    if written.refusal != 0 {
-        return buffers::refuse(written.refusal);
-    }
-    dot::plan_dot(&counted[..written.length], out)
+    rosters::write_counted(policy, roster, out, dot::plan_dot)
 }
 
 // What one more account costs, as text.
 pub fn growth_text_roster(policy: &[u8], roster: &[u8], out: &mut [u8]) -> Written
     ensures { (result ≡ roster_growth_written policy.now roster.now (length out.old)) × (out.new ≡ roster_growth_after policy.now roster.now out.old) }
 {
-    let mut counted = [0u8; 2816];
-    let written = rosters::count_policy(policy, roster, &mut counted);
-    if written.refusal != 0 {
-        return buffers::refuse(written.refusal);
-    }
-    growth_text::growth_text(&counted[..written.length], out)
+    rosters::write_counted(policy, roster, out, growth_text::growth_text)
 }

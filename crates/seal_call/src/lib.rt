@@ -13,7 +13,8 @@ fn seal_argument(number: u8, nonce: usize, at: usize) -> usize
     match number {
         13 => at + 1,
         15 => at + 2,
-        _ => { if nonce == 12 { at + 4 } else { at + 3 } }
+        _ if nonce == 12 => at + 4,
+        _ => at + 3,
     }
 }
 
@@ -29,9 +30,9 @@ fn report(
     requires { at ≤ 3 }
     ensures { result ≡ printed }
 {
-    if printed.ok && printed.refusal != 0 {
-        let argument = seal_argument(printed.refusal, nonce, at);
-        policy_messages::tell_asked(rt, program, at, argument, policy, printed.refusal);
+    if let Ended::Refused(number) = printed {
+        let argument = seal_argument(number, nonce, at);
+        policy_messages::tell_asked(rt, program, at, argument, policy, number);
     }
     printed
 }
@@ -52,24 +53,22 @@ fn seal_under(
     let mut nonce = io::buffer();
     let mut text = [0u8; 32769];
     let read = files::read_both(rt, program, at + 3, at + 4, &mut nonce, &mut text);
+    let files = read.map(|(first, second)| (&nonce[..first], &text[..second]));
     let mut name = io::buffer();
     let name_length = arguments::name_argument(rt, at + 1, &mut name);
     let mut out = io::buffer();
     let out_length = arguments::argument(rt, at + 5, &mut out);
-    let nonce_length = read.first;
-    let text_length = read.second;
     let printed = seal_verb::seal(
         rt,
         program,
-        read.ok,
         policy,
         &name[..name_length],
         root,
-        &nonce[..nonce_length],
-        &text[..text_length],
+        files,
         option,
         &out[..out_length],
     );
+    let nonce_length = read.map_or(0, |(first, _)| first);
     report(rt, program, at, policy, nonce_length, printed)
 }
 
@@ -77,11 +76,7 @@ fn seal_under(
 fn input(rt: HostRuntime, i: usize) -> usize
     ensures { result ≤ 1 }
 {
-    if arguments::is_argument(rt, i, b"-") {
-        1
-    } else {
-        0
-    }
+    usize::from(arguments::is_argument(rt, i, b"-"))
 }
 
 // Whether two of POLICY, ROOT, NONCE and TEXT name standard input, which is then told.
@@ -101,17 +96,15 @@ pub fn seal(rt: HostRuntime, program: &[u8], at: usize, option: bool) -> Ended
     ensures { SealEnds option result }
 {
     if new_file::is_no_file(rt, program, at + 5) || is_twice_input(rt, program, at) {
-        return outcomes::failed();
+        return Ended::Failed;
     }
     // As above (`file_front`, `file_root_front`, crate seal_answers).
     let mut policy = io::buffer();
     let mut root = io::buffer();
     let read = files::read_both(rt, program, at, at + 2, &mut policy, &mut root);
-    if !read.ok {
-        return outcomes::failed();
-    }
-    let policy_length = read.first;
-    let root_length = read.second;
+    let Some((policy_length, root_length)) = read else {
+        return Ended::Failed;
+    };
     seal_under(
         rt,
         program,

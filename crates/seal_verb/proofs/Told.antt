@@ -1,30 +1,17 @@
 -- What a call of `seal` tells, by what was sealed and what was saved.
 use Prim.Native.Nat.{ℕ, ◌≤◌}
-use mathlib.Core.Bool.{Bool, true, false, cond}
+use mathlib.Core.Bool.{Bool}
 use mathlib.Core.List.{List, []}
-use mathlib.Core.Path.{◌≡◌, refl, sym, ap, ◌∙◌}
-use lib.ListN.{length, take}
+use mathlib.Core.Path.{◌≡◌, sym, ap}
+use lib.ListN.{length}
 use Rattle.buffers.proofs.Unless.{unless_within}
 use Rattle.buffers.specs.declared.Written.{Written}
 use Rattle.fingerprint.specs.Fingerprint.{fingerprint_of}
 use Rattle.lines.specs.Lines.{sealed_text}
-use Rattle.new_file.specs.declared.Saved.{Saved}
-use Rattle.outcomes.proofs.Ending.{not_both, said_as, ends_answered, ends_as}
+use Rattle.outcomes.proofs.Ending.{said_as, ends_answered, ends_as}
 use Rattle.outcomes.specs.Status.{Said, Ends}
 use Rattle.outcomes.specs.declared.Ended.{Ended}
 use Rattle.seal_answers.specs.Seal.{seal_refusal, label_sealed, sealed_of, file_after}
-
--- where a call ends well only if all was saved, what is said is the length of all that was to be saved
-module _ (size : ℕ) (print : List ℕ) (option : Bool) (saved : Saved) (e : Ended) where
-  pub told_whole : saved.length ≡ cond saved.ok size 0 → (e.ok ≡ saved.ok)
-      → Said 0 (sealed_text saved.length print option) e → Said 0 (sealed_text size print option) e
-  told_whole counts done said ok = go saved.ok refl
-    where
-      go : (b : Bool) → saved.ok ≡ b → (e.refusal ≡ 0) × (take e.length e.text ≡ sealed_text size print option)
-      go false o = not_both (done ∙ o) ok
-      go true o =
-          let whole : saved.length ≡ size = counts ∙ ap (λ (b : Bool). cond b size 0) o in
-          said_as 0 e (ap (λ (n : ℕ). sealed_text n print option) whole) said ok
 
 -- by what `seal` answered, for a buffer of 32,806 bytes
 module _ (policy name root nonce text : List ℕ) (option : Bool) (w : Written) (e : Ended)

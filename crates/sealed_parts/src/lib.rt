@@ -11,9 +11,7 @@ pub fn read_nonce(s: &[u8], at: usize) -> [u8; 12]
     requires { at + 12 ≤ length s.now }
     ensures { result ≡ bytes_at s.now at 12 }
 {
-    let mut nonce = [0u8; 12];
-    nonce.copy_from_slice(&s[at..at + 12]);
-    nonce
+    format::read_bytes(s, at)
 }
 
 // Writes a text encrypted, or decrypted, from `at` on, and answers the place after it.

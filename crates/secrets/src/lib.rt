@@ -12,12 +12,9 @@ fn with_parents(labels: usize, parents: &[u8; 64], held: [bool; 64]) -> [bool; 6
     ensures { Needed held result parents.now 1 labels }
 {
     let mut needed = held;
-    let mut next = labels;
-    while next > 1 {
-        next -= 1;
-        if needed[next] {
-            let parent = parents[next] as usize;
-            needed[parent] = true;
+    for m in (1..labels).rev() {
+        if needed[m] {
+            needed[usize::from(parents[m])] = true;
         }
     }
     needed
@@ -37,8 +34,7 @@ fn next_secret(
     if m == 0 {
         return root;
     }
-    let parent = parents[m] as usize;
-    let above = secrets[parent];
+    let above = secrets[usize::from(parents[m])];
     hmac::child_secret(above, names::read_name(policy, 12 * m + 2))
 }
 
@@ -55,10 +51,7 @@ pub fn make_secrets(
 {
     let needed = with_parents(labels, parents, held);
     let mut secrets = [[0u8; 32]; 64];
-    let mut next = 0;
-    while next < labels {
-        let m = next;
-        next += 1;
+    for m in 0..labels {
         if needed[m] {
             let secret = next_secret(policy, parents, root, &secrets, m);
             secrets[m] = secret;

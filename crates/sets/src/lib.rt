@@ -6,19 +6,12 @@ ghost use Rattle.order.specs.Table.{entry_at};
 ghost use Rattle.trees.specs.Weights.{in_smallest};
 ghost use Rattle.weights.specs.Tables.{entries, Rowed, sizes_below, size_table, key_total};
 
-// A label's number as an index.
-fn wide(x: u8) -> usize
-    ensures { (result ≡ x) × (result ≤ 255) }
-{
-    x as usize
-}
-
 // Whether label `m` is in the smallest set of label `l`: at or below it, and the top or under a parent that is not.
 pub fn in_smallest(rows: &[[bool; 64]; 64], parents: &[u8; 64], l: usize, m: usize) -> bool
     requires { (l < 64) × (m < 64) × (entries parents.now m < 64) }
     ensures { result ≡ in_smallest (entry_at rows.now) (entries parents.now) l m }
 {
-    let parent = wide(parents[m]);
+    let parent = usize::from(parents[m]);
     rows[m][l] & ((m == 0) | !rows[parent][l])
 }
 
@@ -27,10 +20,7 @@ pub fn counted(size: u8, held: bool) -> u8
     requires { size ≤ 64 }
     ensures { result ≡ size + cond held 1 0 }
 {
-    if held {
-        return size + 1;
-    }
-    size
+    size + u8::from(held)
 }
 
 // The sizes of the smallest sets with label `m` counted, from those of the labels below it.
@@ -45,11 +35,9 @@ fn with_label(
     ensures { result ≡ sizes_below labels (entry_at rows.now) (entries parents.now) (m + 1) }
 {
     let mut next = [0u8; 64];
-    let mut l = 0;
-    while l < labels {
+    for l in 0..labels {
         let held = in_smallest(rows, parents, l, m);
         next[l] = counted(sizes[l], held);
-        l += 1;
     }
     next
 }
@@ -60,11 +48,10 @@ pub fn set_sizes(labels: usize, rows: &[[bool; 64]; 64], parents: &[u8; 64]) -> 
     ensures { result ≡ size_table labels (entry_at rows.now) (entries parents.now) }
 {
     let mut sizes = [0u8; 64];
-    let mut m = 0;
-    while m < labels {
+    for m in 0..labels {
+        // In two steps: written in one, the kit does not follow the array that the call answers into the table that it reads.
         let next = with_label(labels, rows, parents, m, sizes);
         sizes = next;
-        m += 1;
     }
     sizes
 }
@@ -75,10 +62,8 @@ pub fn total_keys(labels: usize, counts: &[u16; 64], sizes: &[u8; 64]) -> u32
     ensures { result ≡ key_total labels (entries counts.now) (entries sizes.now) }
 {
     let mut total: u32 = 0;
-    let mut label = 0;
-    while label < labels {
-        total += weights::accounts(counts[label]) * wide(sizes[label]) as u32;
-        label += 1;
+    for (count, size) in counts[..labels].iter().zip(sizes) {
+        total += u32::from(*count) * u32::from(*size);
     }
     total
 }

@@ -1,12 +1,14 @@
 -- The hash value along the blocks of a message.
 use mathlib.Core.Path.{◌≡◌, refl, ◌∙◌}
 use mathlib.Core.List.{List, [], ◌++◌, append_assoc}
-use Prim.Native.Nat.{ℕ, zero, suc, ◌+◌, ◌*◌, ◌/◌, ◌≤◌}
+use Prim.Native.Nat.{ℕ, zero, suc, ◌+◌, ◌*◌, ◌/◌, ◌≤◌, ◌<◌}
 use native.Mathlib.Nat.{add-zero, add-suc}
 use native.Mathlib.Numerals.{add-one}
 use native.Mathlib.Omega.{arith}
-use lib.ListN.{length, take, drop, length-append, length-drop, drop_of_length-le}
+use lib.ListN.{length, get_or, drop, length-append, length-drop, drop_of_length-le}
 use lib.Seq.{take_all, take-append-le, drop-append-le, drop-drop}
+use Rattle.std.specs.Simd.{first_chunks}
+use Rattle.lists.proofs.Chunks.{chunk_at}
 use Rattle.sha256_constants.specs.Constants.{initial}
 use Rattle.compression.specs.Compression.{compressed}
 use Rattle.padding.specs.Padding.{padding}
@@ -32,10 +34,11 @@ chained_add h p n (suc j) =
     let e : 64 * (n + j) ≡ 64 * n + 64 * j = omega arith in
     rw (add-suc, chained_add h p n j, drop-drop (64 * j) (64 * n) p, e)
 
--- one turn of the loop over the blocks; it reads n bytes
-pub chained_turn : (h₀ m h : List ℕ) (i n : ℕ) → n ≡ 64 → h ≡ chained h₀ m i → compressed h (take n (drop (64 * i) m)) ≡ chained h₀ m (i + 1)
+-- one turn of the loop over the blocks, as `as_chunks` cuts them
+pub chained_turn : (h₀ m h : List ℕ) (i count : ℕ) → i < count → h ≡ chained h₀ m i
+    → compressed h (get_or (first_chunks 64 count m) i []) ≡ chained h₀ m (i + 1)
 unfolding chained block
-chained_turn h₀ m h i n size e = rw (add-one, e, size)
+chained_turn h₀ m h i count l e = rw (add-one, e, chunk_at 64 count m i l)
 
 -- n whole blocks of m may be taken before the rest
 pub digest_rest : (h m s : List ℕ) (n : ℕ) → 64 * n ≤ length m → digest_from h (m ++ s) ≡ digest_from (chained h m n) (drop (64 * n) m ++ s)

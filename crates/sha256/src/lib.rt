@@ -6,6 +6,9 @@ ghost use Rattle.padding.specs.Padding.{padding};
 ghost use Rattle.sha256.specs.Sha256.{chained, joined, digest_from, hash};
 ghost use Rattle.sha256.specs.Digest.{too_long, sha256_of};
 
+// How many bytes a key or a message may have.
+pub const LIMIT: usize = 65_536;
+
 // A digest, or a refusal with 32 zero bytes.
 #[repr(C)]
 #[derive(Clone, Copy)]
@@ -25,16 +28,13 @@ pub fn too_long() -> Digest
 }
 
 // The hash value after the whole blocks of a message.
+#[tactic(auto, using(crate::proofs::Chain::chained_turn), unfolding(crate::specs::Sha256::chained))]
 fn absorb(h: &mut [u32; 8], message: &[u8])
     ensures { h.new ≡ chained h.old message.now (length message.now / 64) }
 {
-    let n = message.len() / 64;
-    let mut i = 0;
-    while i < n {
-        let at = 64 * i;
-        let end = at + 64;
-        compression::compress(h, &message[at..end]);
-        i += 1;
+    let (blocks, _) = message.as_chunks::<64>();
+    for block in blocks {
+        compression::compress(h, block);
     }
 }
 
@@ -43,10 +43,8 @@ fn joined_bytes(h: [u32; 8]) -> [u8; 32]
     ensures { result ≡ joined h 8 }
 {
     let mut out = [0u8; 32];
-    let mut i = 0;
-    while i < 8 {
-        padding::put_word(&mut out, 4 * i, h[i]);
-        i += 1;
+    for (i, word) in h.iter().enumerate() {
+        padding::put_word(&mut out, 4 * i, *word);
     }
     out
 }
@@ -58,8 +56,7 @@ fn finish(from: [u32; 8], blocks: usize, message: &[u8]) -> [u8; 32]
 {
     let mut h = from;
     absorb(&mut h, message);
-    let at = message.len() / 64 * 64;
-    let rest = &message[at..];
+    let (_, rest) = message.as_chunks::<64>();
     let last = padding::last_blocks(rest, 64 * blocks + message.len());
     let end = padding::padded_end(rest.len());
     absorb(&mut h, &last[..end]);
@@ -67,6 +64,7 @@ fn finish(from: [u32; 8], blocks: usize, message: &[u8]) -> [u8; 32]
 }
 
 // The hash of a message of any length.
+#[tactic(auto, unfolding(crate::specs::Sha256::hash))]
 pub fn hash_bytes(message: &[u8]) -> [u8; 32]
     ensures { result ≡ hash message.now }
 {
@@ -74,6 +72,7 @@ pub fn hash_bytes(message: &[u8]) -> [u8; 32]
 }
 
 // The hash of a block and a message after it, which is not copied.
+#[tactic(auto, using(crate::proofs::Chain::hash_after_block))]
 pub fn hash_after(first: [u8; 64], message: &[u8]) -> [u8; 32]
     ensures { result ≡ hash (first ++ message.now) }
 {
@@ -82,11 +81,12 @@ pub fn hash_after(first: [u8; 64], message: &[u8]) -> [u8; 32]
     finish(h, 1, message)
 }
 
-// SHA-256 of a message of at most 65,536 bytes; a longer one is refused.
+// SHA-256 of a message of at most LIMIT bytes; a longer one is refused.
+#[tactic(auto, unfolding(crate::specs::Digest::sha256_of))]
 pub fn sha256(message: &[u8]) -> Digest
     ensures { result ≡ sha256_of message.now }
 {
-    if 65536 < message.len() {
+    if LIMIT < message.len() {
         return too_long();
     }
     Digest {

@@ -72,6 +72,7 @@ const K: [u32; 64] = [
     0xc671_78f2,
 ];
 
+#[tactic(auto, unfolding(crate::specs::Constants::round_words))]
 pub fn round_words() -> [u32; 64]
     ensures { result ≡ round_words }
 {
@@ -90,6 +91,7 @@ const H0: [u32; 8] = [
     0x5be0_cd19,
 ];
 
+#[tactic(auto, unfolding(crate::specs::Constants::initial))]
 pub fn initial_value() -> [u32; 8]
     ensures { result ≡ initial }
 {

@@ -1,12 +1,12 @@
 -- Values as messages show them, and the loop that writes them.
 use Prim.Native.Nat.{ℕ, suc, ◌+◌, ◌≤◌, ◌<◌}
 use mathlib.Core.List.{List, [], ◌∷◌, ◌++◌}
-use mathlib.Core.Path.{◌≡◌, refl, ap}
+use mathlib.Core.Path.{◌≡◌, refl, ap, ◌∙◌}
 use native.Mathlib.Numerals.{add-one}
 use native.Mathlib.Omega.{arith}
 use lib.ListN.{length, take, get_or, set}
 use lib.Seq.{take-suc, take_all}
-use Rattle.buffers.proofs.Writes.{put_next, put_length, put_none}
+use Rattle.buffers.proofs.Writes.{put_next, put_none}
 use Rattle.buffers.specs.Handed.{wrote, refused_written, handed, handed_into}
 use Rattle.buffers.specs.Put.{Put}
 use Rattle.buffers.specs.declared.Written.{Written}
@@ -44,9 +44,6 @@ module _ (value out : List ℕ) where
   showing_refused e h = refused_handed (shown value) out e (omega (arith, shown_length value))
 
   module _ (after : List ℕ) (i : ℕ) (showing : Showing value out after i) where
-    pub showing_length : length after ≡ length out
-    showing_length = put_length showing.put
-
     pub showing_more : i < length value → i < length after → (byte : ℕ) → byte ≡ shown_byte (get_or value i 0)
         → Showing value out (set after i byte) (i + 1)
     showing_more h room byte e = record { within = omega arith; put = rw more (put_next showing.put (put_one after i byte room)) }
@@ -54,5 +51,8 @@ module _ (value out : List ℕ) where
         more : shown (take (i + 1) value) ≡ shown (take i value) ++ (byte ∷ [])
         more = rw (add-one i, take-suc value i 0 h, e) (shown_last (take i value) (get_or value i 0))
 
-    pub showing_all : length value ≤ i → (wrote i ≡ handed (shown value) (length out)) × (after ≡ handed_into (shown value) out)
-    showing_all h = put_handed (shown value) out (rw (take_all i value h) at showing.put)
+    pub showing_all : length value ≤ i → {w : Written} → w ≡ wrote (length value) → (w ≡ handed (shown value) (length out)) × (after ≡ handed_into (shown value) out)
+    showing_all h e =
+        let all : i ≡ length value = omega (arith, showing.within) in
+        let r = put_handed (shown value) out (rw (take_all i value h) at showing.put) in
+        (e ∙ rw (← all) r.0, r.1)

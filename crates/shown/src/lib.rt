@@ -11,7 +11,7 @@ use buffers::Written;
 pub fn is_control(byte: u8) -> bool
     ensures { result ≡ is_control byte }
 {
-    (byte < 32) | (byte == 127)
+    byte.is_ascii_control()
 }
 
 // A byte as a message shows it: a control character as `?`.
@@ -28,14 +28,8 @@ pub fn show(value: &[u8], out: &mut [u8]) -> Written
     if out.len() < value.len() {
         return buffers::refuse(16);
     }
-    let mut i = 0;
-    while i < value.len() {
-        out[i] = shown_byte(value[i]);
-        i += 1;
+    for (i, byte) in value.iter().enumerate() {
+        out[i] = shown_byte(*byte);
     }
-    Written {
-        refusal: 0,
-        zeros: [0u8; 7],
-        length: i,
-    }
+    buffers::wrote(value.len())
 }

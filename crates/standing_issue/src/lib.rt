@@ -5,7 +5,6 @@ ghost use Rattle.std.specs.Prelude.{◌≡◌, length};
 ghost use Rattle.roster_answers.specs.Issue.{activity_refusal, standing_refusal, standing_issued, standing_after};
 
 use buffers::Written;
-use format::Found;
 use roster_file::{Activity, Standing};
 
 // The number that an account on the label asked for, or the root secret, is refused under, 0 when they are not.
@@ -13,12 +12,8 @@ fn activity_refusal(activity: Activity, root: &[u8]) -> u8
     ensures { result ≡ activity_refusal activity root.now }
 {
     match activity {
-        Activity::Active => {
-            if root.len() != 32 {
-                return 15;
-            }
-            0
-        }
+        Activity::Active if root.len() == 32 => 0,
+        Activity::Active => 15,
         Activity::Held => 26,
     }
 }
@@ -28,14 +23,8 @@ fn standing_refusal(standing: Standing, root: &[u8], l: usize) -> u8
     ensures { result ≡ standing_refusal standing root.now l }
 {
     match standing {
-        Standing::Unknown => 14,
-        Standing::Withdrawn => 14,
-        Standing::On(m, activity) => {
-            if m as usize != l {
-                return 14;
-            }
-            activity_refusal(activity, root)
-        }
+        Standing::On(m, activity) if usize::from(m) == l => activity_refusal(activity, root),
+        _ => 14,
     }
 }
 
@@ -56,7 +45,7 @@ pub fn issue_standing(
         return buffers::refuse(planned.refusal);
     }
     match issuer_keys::asked_label(policy, planned.labels, name) {
-        Found::At(l) => {
+        Some(l) => {
             let number = standing_refusal(standing, root, l);
             if number != 0 {
                 return buffers::refuse(number);
@@ -74,6 +63,6 @@ pub fn issue_standing(
                 envelope,
             )
         }
-        Found::Nothing => buffers::refuse(13),
+        None => buffers::refuse(13),
     }
 }

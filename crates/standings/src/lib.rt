@@ -21,8 +21,7 @@ fn activity_number(activity: Activity) -> u8
 fn state_number(account: Account) -> u8
     ensures { result ≡ state_number account.standing }
 {
-    let standing = account.standing;
-    match standing {
+    match account.standing {
         Standing::Unknown => 0,
         Standing::Withdrawn => 1,
         Standing::On(_, activity) => activity_number(activity),
@@ -33,10 +32,8 @@ fn state_number(account: Account) -> u8
 fn place_number(account: Account) -> u8
     ensures { result ≡ place_number account.standing }
 {
-    let standing = account.standing;
-    match standing {
-        Standing::Unknown => 0,
-        Standing::Withdrawn => 0,
+    match account.standing {
+        Standing::Unknown | Standing::Withdrawn => 0,
         Standing::On(l, _) => l,
     }
 }
@@ -45,24 +42,12 @@ fn place_number(account: Account) -> u8
 pub fn states(roster: Roster) -> [u8; 4096]
     ensures { result ≡ listed (state_at roster) 4096 }
 {
-    let mut table = [0u8; 4096];
-    let mut i = 0;
-    while i < 4096 {
-        table[i] = state_number(roster.accounts[i]);
-        i += 1;
-    }
-    table
+    roster.accounts.map(state_number)
 }
 
 // The label that each account stands on.
 pub fn places(roster: Roster) -> [u8; 4096]
     ensures { result ≡ listed (place_at roster) 4096 }
 {
-    let mut table = [0u8; 4096];
-    let mut i = 0;
-    while i < 4096 {
-        table[i] = place_number(roster.accounts[i]);
-        i += 1;
-    }
-    table
+    roster.accounts.map(place_number)
 }

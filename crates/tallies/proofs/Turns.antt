@@ -1,4 +1,5 @@
 -- One more account is counted: what stands in the table of counts then.
+use Rattle.std.specs.Prelude.{Some, ◌≢◌}
 use Prim.Native.Nat.{ℕ, suc, ◌+◌, ◌≤◌, ◌<◌}
 use mathlib.Core.Bool.{Bool, true, false, cond}
 use mathlib.Core.List.{[], ◌∷◌}
@@ -21,11 +22,16 @@ use Rattle.trees.proofs.Select.{select_short}
 use Rattle.trees.specs.Sums.{select}
 use Rattle.tallies.specs.Tally.{place_in, count_to}
 
--- an account on a label, by that label's number
-on_place : (s : Standing) (l : ℕ) → l < 256 → is_on l s ≡ eqb (place_in s) l
-on_place Unknown l h = sym (ne_eqb 256 l (λ e. omega arith))
-on_place Withdrawn l h = sym (ne_eqb 256 l (λ e. omega arith))
-on_place (On m activity) l h = refl
+-- whether an account is on a label, by the label that it is on, if any
+on_some : (s : Standing) (l m : ℕ) → place_in s ≡ Some m → is_on l s ≡ eqb m l
+on_some Unknown l m e = cc
+on_some Withdrawn l m e = cc
+on_some (On k activity) l m e = let same : k ≡ m = cc in rw same
+
+not_on : (s : Standing) (l : ℕ) → ((m : ℕ) → place_in s ≡ Some m → m ≢ l) → is_on l s ≡ false
+not_on Unknown l h = refl
+not_on Withdrawn l h = refl
+not_on (On k activity) l h = ne_eqb k l (h k refl)
 
 module _ (roster : Roster) where
   -- one more number
@@ -47,29 +53,27 @@ module _ (roster : Roster) where
   none_counted = refl
 
   module _ (i : ℕ) (h : i < 4096) where
-    abbrev place : ℕ
-    place = place_in (get_or roster.accounts i (standing_so Unknown)).standing
+    abbrev pub stands : Standing
+    stands = (get_or roster.accounts i (standing_so Unknown)).standing
 
-    count_next : (l : ℕ) → l < 64 → count_to roster (i + 1 + 1) l ≡ count_to roster (i + 1) l + cond (eqb place l) 1 0
+    count_next : (l : ℕ) → count_to roster (i + 1 + 1) l ≡ count_to roster (i + 1) l + cond (is_on l stands) 1 0
     unfolding stands_on
-    count_next l few =
-        ap (λ (k : ℕ). count_to roster k l) (add-one (i + 1))
-        ∙ count_more (i + 1) l
-        ∙ ap (λ (b : Bool). count_to roster (i + 1) l + cond b 1 0)
-        (ap (is_on l) (standing_at roster i h) ∙ on_place (get_or roster.accounts i (standing_so Unknown)).standing l (omega arith))
+    count_next l =
+        ap (λ (k : ℕ). count_to roster k l) (add-one (i + 1)) ∙ count_more (i + 1) l
+        ∙ ap (λ (s : Standing). count_to roster (i + 1) l + cond (is_on l s) 1 0) (standing_at roster i h)
 
-    -- an account on a label, and one on none
-    pub counted_there : place < 64
-        → set (listed (count_to roster (i + 1)) 64) place (get_or (listed (count_to roster (i + 1)) 64) place 0 + 1) ≡ listed (count_to roster (i + 1 + 1)) 64
-    counted_there few =
-        listed_set (count_to roster (i + 1)) (count_to roster (i + 1 + 1)) 64 place (get_or (listed (count_to roster (i + 1)) 64) place 0 + 1) few
-        (count_next place few ∙ rw (eq-eqb place place refl) (ap (λ (k : ℕ). k + 1) (sym (get_d_listed (count_to roster (i + 1)) 64 place 0 few))))
-        (λ k hk other. count_next k hk ∙ rw (ne_eqb place k (λ e. other (sym e))) (omega arith))
+    -- an account on one of the 64 labels, and one on none of them
+    pub counted_there : {l : ℕ} → place_in stands ≡ Some l → l < 64
+        → set (listed (count_to roster (i + 1)) 64) l (get_or (listed (count_to roster (i + 1)) 64) l 0 + 1) ≡ listed (count_to roster (i + 1 + 1)) 64
+    counted_there {l} here few =
+        listed_set (count_to roster (i + 1)) (count_to roster (i + 1 + 1)) 64 l (get_or (listed (count_to roster (i + 1)) 64) l 0 + 1) few
+        (count_next l ∙ rw (on_some stands l l here, eq-eqb l l refl, get_d_listed (count_to roster (i + 1)) 64 l 0 few))
+        (λ k hk other. count_next k ∙ rw (on_some stands k l here, ne_eqb l k (λ e. other (sym e))) (omega arith))
 
-    pub counted_nowhere : 64 ≤ place → listed (count_to roster (i + 1)) 64 ≡ listed (count_to roster (i + 1 + 1)) 64
+    pub counted_nowhere : ((l : ℕ) → place_in stands ≡ Some l → 64 ≤ l) → listed (count_to roster (i + 1)) 64 ≡ listed (count_to roster (i + 1 + 1)) 64
     counted_nowhere none =
         listed_same (count_to roster (i + 1)) (count_to roster (i + 1 + 1)) 64
-        (λ k hk. sym (count_next k hk ∙ rw (ne_eqb place k (λ e. omega arith)) (omega arith)))
+        (λ k hk. sym (count_next k ∙ rw (not_on stands k (λ l here e. omega (arith, none l here))) (omega arith)))
 
   pub all_counted : listed (count_to roster 4097) 64 ≡ listed (count_in roster) 64
   unfolding count_to count_in

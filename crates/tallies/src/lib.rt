@@ -8,15 +8,13 @@ ghost use Rattle.tallies.specs.Tally.{place_in};
 
 use roster_file::{Account, Roster, Standing};
 
-// The label that an account stands on, active or held; 256 if it is on none.
-fn label_of(account: Account) -> usize
-    ensures { result ≡ place_in account.standing }
+// The label that an account stands on, active or held, if it is on one.
+fn label_of(account: &Account) -> Option<usize>
+    ensures { result ≡ place_in account.now.standing }
 {
-    let standing = account.standing;
-    match standing {
-        Standing::Unknown => 256,
-        Standing::Withdrawn => 256,
-        Standing::On(l, _) => l as usize,
+    match account.standing {
+        Standing::On(l, _) => Some(usize::from(l)),
+        Standing::Unknown | Standing::Withdrawn => None,
     }
 }
 
@@ -25,12 +23,12 @@ pub fn tally(roster: Roster) -> [u16; 64]
     ensures { result ≡ listed (count_in roster) 64 }
 {
     let mut counts = [0u16; 64];
-    let mut i = 0;
-    while i < 4096 {
-        let l = label_of(roster.accounts[i]);
-        i += 1;
-        if l < 64 {
-            counts[l] = counts[l] + 1;
+    // Two tests, one in the other: with both in one condition the proof knows nothing where there is no label.
+    for account in &roster.accounts {
+        if let Some(l) = label_of(account) {
+            if l < 64 {
+                counts[l] += 1;
+            }
         }
     }
     counts

@@ -3,35 +3,21 @@
 
 ghost use Rattle.std.specs.Prelude.{◌≡◌, ◌≤◌, length};
 ghost use Rattle.buffers.specs.Put.{Put};
-ghost use Rattle.plan_texts.specs.Listing.{lines, listing};
+ghost use Rattle.plan_texts.specs.Listing.{listing};
 ghost use Rattle.plan_texts.specs.TextAnswer.{text_written, text_after};
-ghost use Rattle.plan_texts.specs.Printable.{Printable};
 
 use buffers::Written;
-use plan_answers::Plan;
-
-// Writes the lines of all labels from the buffer's start on.
-fn put_lines(policy: &[u8], plan: Plan, out: &mut [u8]) -> usize
-    requires { Printable policy.now plan × (length (lines policy.now plan plan.labels) ≤ length out.old) }
-    ensures { Put out.old out.new 0 (lines policy.now plan plan.labels) result }
-{
-    let labels = plan.labels;
-    let mut at = 0;
-    let mut m = 0;
-    while m < labels {
-        at = text_lines::put_line(policy, plan, m, out, at);
-        m += 1;
-    }
-    at
-}
+use line_parts::PrintablePlan;
+use text_lines::TextLines;
 
 // Writes the text of a policy file and its plan from the buffer's start on.
-fn write_text(policy: &[u8], plan: Plan, out: &mut [u8]) -> usize
-    requires { Printable policy.now plan × (length (listing policy.now plan) ≤ length out.old) }
-    ensures { Put out.old out.new 0 (listing policy.now plan) result }
+#[tactic(auto, using(plan_texts::proofs::ListingParts::listing_length))]
+fn write_text(lines: &TextLines<'_>, out: &mut [u8]) -> usize
+    requires { length (listing lines.now.printed.policy.now lines.now.printed.plan.now) ≤ length out.old }
+    ensures { Put out.old out.new 0 (listing lines.now.printed.policy.now lines.now.printed.plan.now) result }
 {
-    let behind = put_lines(policy, plan, out);
-    decimals::put_worded(out, behind, b"TOTAL", plan.total)
+    let behind = listings::put_lines(lines, out, 0);
+    decimals::put_worded(out, behind, b"TOTAL", lines.printed.plan.total)
 }
 
 // Writes the text of an accepted policy file from the buffer's start on, or nothing if it has no room for it.
@@ -44,6 +30,10 @@ pub fn plan_text(policy: &[u8], out: &mut [u8]) -> Written
         return buffers::refuse(plan.refusal);
     }
     let mut text = [0u8; 4096];
-    let length = write_text(policy, plan, &mut text);
+    let printed = PrintablePlan {
+        policy,
+        plan: &plan,
+    };
+    let length = write_text(&TextLines { printed }, &mut text);
     buffers::hand_out(&text[..length], out)
 }

@@ -8,40 +8,27 @@ ghost use Rattle.text_file.specs.Texts.{is_text_byte, all_text, has_line, is_tex
 fn is_text_byte(byte: u8) -> bool
     ensures { result ≡ is_text_byte byte }
 {
-    (byte == 9) | (byte == 10) | (byte == 13) | !shown::is_control(byte)
+    matches!(byte, b'\t' | b'\n' | b'\r') || !shown::is_control(byte)
 }
 
 // Whether every byte may stand in a text.
 fn all_text(file: &[u8]) -> bool
     ensures { result ≡ all_text file.now }
 {
-    let mut i = 0;
-    while i < file.len() {
-        if !is_text_byte(file[i]) {
-            return false;
-        }
-        i += 1;
-    }
-    true
+    file.iter().all(|byte| is_text_byte(*byte))
 }
 
 // Whether a line feed stands in a file.
 fn has_line(file: &[u8]) -> bool
     ensures { result ≡ has_line file.now }
 {
-    let mut i = 0;
-    while i < file.len() {
-        if file[i] == b'\n' {
-            return true;
-        }
-        i += 1;
-    }
-    false
+    file.contains(&b'\n')
 }
 
 // Whether a file is a text.
+#[tactic(auto, unfolding(crate::specs::Texts::is_text))]
 pub fn is_text(file: &[u8]) -> bool
     ensures { result ≡ is_text file.now }
 {
-    has_line(file) & all_text(file)
+    has_line(file) && all_text(file)
 }

@@ -1,6 +1,5 @@
-// Numbers and files of a case, from standard input.
-ghost use Rattle.std.specs.Prelude.{◌≡◌, length};
-ghost use Rattle.io.specs.Counts.{IsPrefixLen};
+// Numbers and files of a case, from standard input. A number that is cut off there counts as zeros, a file as a's.
+ghost use Rattle.std.specs.Prelude.{◌≡◌, ◌≤◌, length};
 
 use std::io::Read;
 
@@ -8,7 +7,7 @@ use std::io::Read;
 pub(crate) fn number(rt: HostRuntime) -> u16 {
     let mut bytes = [0u8; 2];
     let _ = rt.stdin().read_exact(&mut bytes);
-    format::read_number(&bytes, 0)
+    u16::from_be_bytes(bytes)
 }
 
 // Room for the longest file, one byte above the limit of document 01.
@@ -21,11 +20,11 @@ pub(crate) fn letters() -> [u8; 65537]
 // Puts a file at the start of a buffer of a's, and answers its length. Two numbers come before it: how many bytes are given, and how many
 // a's follow them.
 pub(crate) fn file(rt: HostRuntime, buffer: &mut [u8]) -> usize
-    ensures { IsPrefixLen result buffer.new }
+    ensures { result ≤ length buffer.new }
 {
-    let given = number(rt) as usize;
-    let more = number(rt) as usize;
-    let start = io::count(given as isize, buffer);
+    let given = usize::from(number(rt));
+    let more = usize::from(number(rt));
+    let start = given.min(buffer.len());
     let _ = rt.stdin().read_exact(&mut buffer[..start]);
-    io::count((given + more) as isize, buffer)
+    (given + more).min(buffer.len())
 }

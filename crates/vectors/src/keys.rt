@@ -1,25 +1,28 @@
 // Keys and envelopes.
 use crate::print;
+use buffers::Written;
 use issuer_answers::IssuerKey;
+use std::io;
 
-pub(crate) fn tell_key(rt: HostRuntime, k: IssuerKey) {
-    if print::accepted(rt, k.refusal) {
-        let bytes = k.key;
-        print::hexadecimal(rt, &bytes, 32);
+pub(crate) fn tell_key(rt: HostRuntime, k: &IssuerKey) -> io::Result<()> {
+    if print::accepted(rt, k.refusal)? {
+        print::hexadecimal(rt, &k.key, 32)?;
     }
+    Ok(())
 }
 
 // The key of a label.
-pub(crate) fn key(rt: HostRuntime, policy: &[u8], name: &[u8], root: &[u8]) {
-    tell_key(rt, issuer_keys::issuer_key(policy, name, root));
+pub(crate) fn key(rt: HostRuntime, policy: &[u8], name: &[u8], root: &[u8]) -> io::Result<()> {
+    tell_key(rt, &issuer_keys::issuer_key(policy, name, root))
 }
 
 // The length and the bytes of an envelope that is issued.
-pub(crate) fn tell_envelope(rt: HostRuntime, refusal: u8, length: usize, buffer: &[u8]) {
-    if print::accepted(rt, refusal) {
-        print::counted(rt, length as u64, b" bytes, ");
-        print::hexadecimal(rt, buffer, length);
+pub(crate) fn tell_envelope(rt: HostRuntime, w: Written, buffer: &[u8]) -> io::Result<()> {
+    if print::accepted(rt, w.refusal)? {
+        print!(rt; "{} bytes, ", w.length)?;
+        print::hexadecimal(rt, buffer, w.length)?;
     }
+    Ok(())
 }
 
 // An account's envelope.
@@ -30,17 +33,17 @@ pub(crate) fn envelope(
     account: u32,
     root: &[u8],
     buffer: &mut [u8],
-) {
+) -> io::Result<()> {
     let w = issuer::issue(policy, name, account, root, buffer);
-    tell_envelope(rt, w.refusal, w.length, buffer);
+    tell_envelope(rt, w, buffer)
 }
 
 // How often F was applied for the key that an envelope gives for a name, and that key.
-pub(crate) fn derived(rt: HostRuntime, envelope: &[u8], name: &[u8]) {
+pub(crate) fn derived(rt: HostRuntime, envelope: &[u8], name: &[u8]) -> io::Result<()> {
     let d = desk::derive(envelope, name);
-    if print::accepted(rt, d.refusal) {
-        print::counted(rt, d.applications as u64, b" applications, ");
-        let bytes = d.key;
-        print::hexadecimal(rt, &bytes, 32);
+    if print::accepted(rt, d.refusal)? {
+        print!(rt; "{} applications, ", d.applications)?;
+        print::hexadecimal(rt, &d.key, 32)?;
     }
+    Ok(())
 }

@@ -12,7 +12,10 @@ mod modules;
 mod policies;
 mod print;
 
+use std::io;
+
 // The files go to the operation as they stand; one that fills a buffer gets the last.
+// The operations stay numbers, those of tests/vectors.py: an enum would only say each twice, since they are read here alone.
 fn answer(
     rt: HostRuntime,
     operation: u16,
@@ -21,18 +24,18 @@ fn answer(
     b: &[u8],
     c: &[u8],
     buffer: &mut [u8],
-) {
+) -> io::Result<()> {
     match operation {
-        0 => hashes::digest(rt, a, number as usize),
-        1 => hashes::mac(rt, a, b, number as usize),
+        0 => hashes::digest(rt, a, usize::from(number)),
+        1 => hashes::mac(rt, a, b, usize::from(number)),
         2 => policies::policy(rt, a),
         3 => policies::plan(rt, a),
         4 => policies::tree(rt, a, b),
         5 => keys::key(rt, a, b, c),
-        6 => keys::envelope(rt, a, b, number as u32, c, buffer),
+        6 => keys::envelope(rt, a, b, u32::from(number), c, buffer),
         7 => keys::derived(rt, a, b),
         8 => ciphers::block(rt, a, number, b, 64),
-        9 => ciphers::block(rt, a, 0, b, number as usize),
+        9 => ciphers::block(rt, a, 0, b, usize::from(number)),
         10 => ciphers::encrypted(rt, a, number, b, buffer),
         11 => ciphers::tag(rt, a, b),
         12 => ciphers::sealed(rt, a, b, c, buffer),
@@ -42,13 +45,13 @@ fn answer(
         16 => accounts::plan(rt, a, b),
         17 => accounts::tree(rt, a, b, c),
         18 => accounts::key(rt, a, b, c),
-        19 => accounts::envelope(rt, a, b, c, number as u32, buffer),
+        19 => accounts::envelope(rt, a, b, c, u32::from(number), buffer),
         _ => accounts::sealed(rt, a, b, c, buffer),
     }
 }
 
-fn case(rt: HostRuntime) {
-    print::name(rt);
+fn case(rt: HostRuntime) -> io::Result<()> {
+    print::name(rt)?;
     let operation = input::number(rt);
     let number = input::number(rt);
     let mut a = input::letters();
@@ -67,15 +70,13 @@ fn case(rt: HostRuntime) {
         &b[..b_length],
         &c[..c_length],
         &mut d[..d_length],
-    );
-    print::bytes(rt, b"\n");
+    )?;
+    println!(rt;)
 }
 
-fn main(rt: HostRuntime) {
-    let cases = input::number(rt);
-    let mut i = 0;
-    while i < cases {
-        case(rt);
-        i += 1;
+fn main(rt: HostRuntime) -> io::Result<()> {
+    for _ in 0..input::number(rt) {
+        case(rt)?;
     }
+    Ok(())
 }

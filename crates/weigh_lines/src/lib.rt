@@ -11,9 +11,10 @@ fn put_least(out: &mut [u8], at: usize, least: bool) -> usize
     ensures { Put out.old out.new at (least_line least) result }
 {
     if least {
-        return buffers::put_bytes(out, at, b"LEAST yes\n");
+        buffers::put_bytes(out, at, b"LEAST yes\n")
+    } else {
+        buffers::put_bytes(out, at, b"LEAST no\n")
     }
-    buffers::put_bytes(out, at, b"LEAST no\n")
 }
 
 // Writes what `weigh` prints.

@@ -1,4 +1,6 @@
 // The weights of labels as parents, from the accounts and the order table.
+#![tactic(auto)]
+
 ghost use Rattle.std.specs.Prelude.{◌≤◌, ◌<◌, cond, not, ◌≡◌};
 ghost use Rattle.order.specs.Table.{entry_at};
 ghost use Rattle.weights.specs.Tables.{entries, Small, accounts_above, above_table, weight_from};
@@ -7,7 +9,7 @@ ghost use Rattle.weights.specs.Tables.{entries, Small, accounts_above, above_tab
 pub fn accounts(x: u16) -> u32
     ensures { (result ≡ x) × (result ≤ 65_535) }
 {
-    x as u32
+    u32::from(x)
 }
 
 // The accounts of label `l` if label `m` is at or below it, else none.
@@ -15,11 +17,7 @@ fn account_above(counts: &[u16; 64], rows: &[[bool; 64]; 64], m: usize, l: usize
     requires { (m < 64) × (l < 64) }
     ensures { (result ≡ accounts_above (entries counts.now) (entry_at rows.now) m l) × (result ≤ 65_535) }
 {
-    let here = accounts(counts[l]);
-    if rows[m][l] {
-        return here;
-    }
-    0
+    if rows[m][l] { accounts(counts[l]) } else { 0 }
 }
 
 // The accounts of the labels at or above label `m`.
@@ -33,10 +31,8 @@ pub fn accounts_above(
     ensures { (result ≡ above_table labels (entries counts.now) (entry_at rows.now) m) × Small result }
 {
     let mut above = [0u32; 64];
-    let mut l = 0;
-    while l < labels {
+    for l in 0..labels {
         above[l] = account_above(counts, rows, m, l);
-        l += 1;
     }
     above
 }
@@ -45,10 +41,7 @@ pub fn accounts_above(
 fn outside(more: u32, above: bool) -> u32
     ensures { (result ≡ cond (not above) more 0) × (result ≤ more) }
 {
-    if above {
-        return 0;
-    }
-    more
+    if above { 0 } else { more }
 }
 
 // The weight of parent `p` for the label whose accounts above it are given: those at labels that are not above `p`.
@@ -57,11 +50,8 @@ pub fn weight(labels: usize, above: &[u32; 64], rows: &[[bool; 64]; 64], p: usiz
     ensures { result ≡ weight_from labels (entries above.now) (entry_at rows.now) p }
 {
     let mut sum: u32 = 0;
-    let mut l = 0;
-    while l < labels {
-        let more = above[l];
-        sum += outside(more, rows[p][l]);
-        l += 1;
+    for (more, is_above) in above[..labels].iter().zip(&rows[p]) {
+        sum += outside(*more, *is_above);
     }
     sum
 }

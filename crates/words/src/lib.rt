@@ -1,30 +1,8 @@
 // The operations on 32-bit words of SHA-256 (FIPS 180-4, sections 3.2 and 4.1.2).
 #![tactic(auto)]
 
-ghost use Rattle.std.specs.Prelude.{◌≡◌, ◌<◌};
+ghost use Rattle.std.specs.Prelude.{◌≡◌};
 ghost use Rattle.words.specs.Words as spec;
-
-// The sum, modulo 2^32.
-pub fn add(x: u32, y: u32) -> u32
-    ensures { result ≡ spec.add x y }
-{
-    std::num::wrapping_add_u32(x, y)
-}
-
-// A byte as a word.
-pub fn wide(x: u8) -> u32
-    ensures { (result ≡ x) × (result < 256) }
-{
-    x as u32
-}
-
-// x turned right by n places.
-fn rotr(n: u32, x: u32) -> u32
-    requires { (0 < n) × (n < 32) }
-    ensures { result ≡ spec.rotr n x }
-{
-    x >> n | x << (32 - n)
-}
 
 pub fn ch(x: u32, y: u32, z: u32) -> u32
     ensures { result ≡ spec.ch x y z }
@@ -38,26 +16,30 @@ pub fn maj(x: u32, y: u32, z: u32) -> u32
     (x & y) ^ (x & z) ^ (y & z)
 }
 
+#[tactic(auto, unfolding(crate::specs::Words::big_sigma0, crate::specs::Words::rotr))]
 pub fn big_sigma0(x: u32) -> u32
     ensures { result ≡ spec.big_sigma0 x }
 {
-    rotr(2, x) ^ rotr(13, x) ^ rotr(22, x)
+    x.rotate_right(2) ^ x.rotate_right(13) ^ x.rotate_right(22)
 }
 
+#[tactic(auto, unfolding(crate::specs::Words::big_sigma1, crate::specs::Words::rotr))]
 pub fn big_sigma1(x: u32) -> u32
     ensures { result ≡ spec.big_sigma1 x }
 {
-    rotr(6, x) ^ rotr(11, x) ^ rotr(25, x)
+    x.rotate_right(6) ^ x.rotate_right(11) ^ x.rotate_right(25)
 }
 
+#[tactic(auto, unfolding(crate::specs::Words::small_sigma0, crate::specs::Words::rotr))]
 pub fn small_sigma0(x: u32) -> u32
     ensures { result ≡ spec.small_sigma0 x }
 {
-    rotr(7, x) ^ rotr(18, x) ^ x >> 3
+    x.rotate_right(7) ^ x.rotate_right(18) ^ x >> 3
 }
 
+#[tactic(auto, unfolding(crate::specs::Words::small_sigma1, crate::specs::Words::rotr))]
 pub fn small_sigma1(x: u32) -> u32
     ensures { result ≡ spec.small_sigma1 x }
 {
-    rotr(17, x) ^ rotr(19, x) ^ x >> 10
+    x.rotate_right(17) ^ x.rotate_right(19) ^ x >> 10
 }

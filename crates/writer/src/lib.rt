@@ -24,21 +24,11 @@ fn put_records(
     let held = envelope_tables::held_labels(labels, rows, parents, l);
     let secrets = secrets::make_secrets(policy, labels, parents, root, held);
     let mut end = at;
-    let mut next = 0;
-    while next < labels {
-        let m = next;
-        next += 1;
-        if rows[m][l] {
-            let parent = parents[m] as usize;
-            end = record_writer::put_record(
-                policy,
-                m,
-                held[m],
-                secrets[m],
-                below[parent],
-                out,
-                end,
-            );
+    for m in 0..labels {
+        let inside = rows[m][l];
+        if inside {
+            let place = below[usize::from(parents[m])];
+            end = record_writer::put_record(policy, m, held[m], secrets[m], place, out, end);
         }
     }
     end

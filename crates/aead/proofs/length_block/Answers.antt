@@ -1,11 +1,9 @@
 -- `aead::length_block` meets its contract.
+use mathlib.Core.Path.{◌∙◌}
 use Rattle.aead.proofs.Lengths.{lengths_put}
 use Rattle.aead.proofs.length_block.Goals as goal
 
 pub returns : goal.returns
 returns c =
-    let d = c in
-    let e = d in
-    let f = e in
-    let g = f in
-    lengths_put g.args.aad g.args.ciphertext g.put_word.ensures f.put_word-2.ensures e.put_word-3.ensures d.put_word-4.ensures
+    lengths_put c.args.aad c.args.ciphertext (c.copy_from_slice.ensures.after ∙ c.to_le_bytes.ensures)
+    (c.copy_from_slice-2.ensures.after ∙ c.to_le_bytes-2.ensures)

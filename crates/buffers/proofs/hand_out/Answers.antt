@@ -8,4 +8,4 @@ pub returns-then-out-bytes : goal.returns-then-out-bytes
 returns-then-out-bytes c = (c.refuse.ensures ∙ handed_none _ _ (omega arith), left_none _ _ (omega arith))
 
 pub returns : goal.returns
-returns c = (handed_room _ _ (omega arith), left_room _ _ (omega arith) c.put_bytes.ensures.written)
+returns c = (c.wrote.ensures ∙ handed_room _ _ (omega arith), left_room _ _ (omega arith) c.put_bytes.ensures.written)

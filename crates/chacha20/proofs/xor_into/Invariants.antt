@@ -1,12 +1,7 @@
 -- `chacha20::xor_into` meets its contract. The invariant: the first i bytes are done.
 use mathlib.Core.Path.{◌≡◌}
-use Prim.Native.Nat.{◌-◌, ◌≤◌}
-use lib.ListN.{length}
 use Rattle.chacha20.proofs.Xored.{xored_to}
 use Rattle.chacha20.proofs.xor_into.Given as goal
 
 abbrev pub invariant-loop-i : goal.invariant-loop-i
-invariant-loop-i l = (l.i ≤ length l.initial.part) × (length l.part ≡ length l.initial.part) × (l.part ≡ xored_to l.initial.part l.stream l.i)
-
-abbrev pub decreases-loop-i : goal.decreases-loop-i
-decreases-loop-i l = length l.initial.part - l.i
+invariant-loop-i l = l.part ≡ xored_to l.initial.part l.stream l.i

@@ -1,11 +1,7 @@
 -- `chacha20_block::bytes_of` meets its contract. The invariant: the bytes of the first i words are written.
 use mathlib.Core.Path.{◌≡◌}
-use Prim.Native.Nat.{◌-◌, ◌≤◌}
 use Rattle.chacha20_block.proofs.Steps.{written}
 use Rattle.chacha20_block.proofs.bytes_of.Given as goal
 
 abbrev pub invariant-loop-i : goal.invariant-loop-i
-invariant-loop-i l = (l.i ≤ 16) × (l.out ≡ written l.s l.i)
-
-abbrev pub decreases-loop-i : goal.decreases-loop-i
-decreases-loop-i l = 16 - l.i
+invariant-loop-i l = l.out ≡ written l.fn.s l.i

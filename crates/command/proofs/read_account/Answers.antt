@@ -1,23 +1,21 @@
--- `command::read_account` meets its contract. Invariant: the first i bytes are digits, and x stands for what they say.
+-- `command::read_account` meets its contract. Invariant: the bytes before are digits, and x stands for what they say.
 use native.Mathlib.Omega.{arith}
-use Rattle.command.proofs.Numbers.{reading_empty, reading_more, reading_below, reading_above, reading_all}
+use mathlib.Core.Path.{sym, ◌∙◌}
+use Rattle.std.proofs.lemmas.Bool.Decides.{nat_tests}
+use Rattle.command.proofs.Numbers.{reading_empty, reading_more, reading_other, reading_all}
 use Rattle.command.proofs.read_account.Goals as goal
 
-pub returns-then-typed-eq0 : goal.returns-then-typed-eq0
-returns-then-typed-eq0 c = reading_empty _ (omega arith)
+pub returns-then-is_empty : goal.returns-then-is_empty
+returns-then-is_empty c = reading_empty c.args.typed.now (grind (arith, nat_tests))
 
-pub returns-then-byte-lt48 : goal.returns-then-byte-lt48
-returns-then-byte-lt48 c = let l = c in
-    reading_below l.args.typed.now l.loop-i.x l.loop-i.i l.loop-i.invariant (omega arith) (omega arith)
+pub returns-then-not-is_ascii_digit : goal.returns-then-not-is_ascii_digit
+returns-then-not-is_ascii_digit c = let l = c.loop-byte in
+    reading_other c.args.typed.now l.x l.byte-index l.invariant (omega arith) (sym c.is_ascii_digit.ensures.value ∙ c.if-not-is_ascii_digit.true)
 
-pub returns-then-byte-gt57 : goal.returns-then-byte-gt57
-returns-then-byte-gt57 c = let l = c in
-    reading_above l.args.typed.now l.loop-i.x l.loop-i.i l.loop-i.invariant (omega arith) (omega arith)
-
-pub loop-i-preserved : goal.loop-i-preserved
-loop-i-preserved c = let l = c in
-    reading_more l.args.typed.now l.loop-i.x l.loop-i.i l.loop-i.invariant (omega arith) (omega arith) (omega arith) c.capped-x.result c.capped-x.ensures
+pub loop-byte-preserved : goal.loop-byte-preserved
+loop-byte-preserved c = let l = c.loop-byte in
+    reading_more c.args.typed.now l.x l.byte-index l.invariant (omega arith) (sym c.is_ascii_digit.ensures.value ∙ c.if-not-is_ascii_digit.false) c.min-x.result (omega (arith, c.min-x.ensures, c.from.ensures))
 
 pub returns : goal.returns
-returns c = let l = c in
-    reading_all l.args.typed.now l.loop-i.x l.loop-i.i l.loop-i.invariant (omega arith) (omega arith)
+returns c = let l = c.loop-byte in
+    reading_all c.args.typed.now l.x l.byte-index l.invariant (omega arith) (grind (arith, nat_tests))

@@ -2,17 +2,11 @@
 use native.Mathlib.Omega.{arith}
 use Rattle.command.proofs.Temporary.{temporary_none, temporary_put}
 use Rattle.command.proofs.temporary_name.Goals as goal
-use Rattle.command.proofs.temporary_name.Goals.{then-name-path-via-then-name-path, then-name-path-via-else-name-path+then-name-path-lt7}
 
-pub returns-then-name-path : goal.returns-then-name-path
-returns-then-name-path c =
+pub returns-then-saturating_sub-lt7 : goal.returns-then-saturating_sub-lt7
+returns-then-saturating_sub-lt7 c =
     let a = c.args in
-    let none = temporary_none a.path.now a.name.now c.refuse.ensures in
-    elim c.then-name-path.branch [
-      | then-name-path-via-then-name-path w ↦ none (omega arith)
-      | then-name-path-via-else-name-path+then-name-path-lt7 w ↦ none (omega arith)
-    ]
+    temporary_none a.path.now a.name.now c.refuse.ensures (omega (arith, c.saturating_sub.ensures))
 
 pub returns : goal.returns
-returns c = let p = c in
-    temporary_put _ _ p.put_bytes-next.ensures p.put_bytes-end.ensures
+returns c = rw c.wrote.ensures (temporary_put _ _ c.put_bytes-next.ensures c.put_bytes-end.ensures)

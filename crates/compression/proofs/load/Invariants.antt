@@ -1,13 +1,9 @@
 -- `compression::load` meets its contract. The invariant: the words of the block up to `t` are stored, the rest of `w` is as it was.
 use mathlib.Core.Path.{◌≡◌}
 use mathlib.Core.List.{◌++◌}
-use Prim.Native.Nat.{◌≤◌, ◌-◌}
 use lib.ListN.{drop}
 use Rattle.compression.specs.Compression.{words}
 use Rattle.compression.proofs.load.Given as goal
 
 abbrev pub invariant-loop-t : goal.invariant-loop-t
-invariant-loop-t l = (l.t ≤ 16) × (l.w ≡ words l.block l.t ++ drop l.t l.initial.w)
-
-abbrev pub decreases-loop-t : goal.decreases-loop-t
-decreases-loop-t l = 16 - l.t
+invariant-loop-t l = l.w ≡ words l.block l.t ++ drop l.t l.initial.w

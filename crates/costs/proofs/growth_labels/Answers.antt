@@ -1,5 +1,4 @@
 -- `costs::growth_labels` meets its contract. Invariant: the figures of the first l labels are filled in.
-use Prim.Native.Nat.{◌-◌}
 use mathlib.Core.Path.{◌≡◌, refl}
 use native.Mathlib.Omega.{arith}
 use Rattle.growth_answers.specs.Growing.{cost_at, ceiling_at, growing}
@@ -12,7 +11,7 @@ use Rattle.costs.proofs.growth_labels.Goals as goal
 
 pub loop-l-init : goal.loop-l-init
 unfolding listed
-loop-l-init c = (omega arith, refl, refl)
+loop-l-init c = (refl, refl)
 
 pub label_figures-label-requires : goal.label_figures-label-requires
 label_figures-label-requires c =
@@ -35,9 +34,8 @@ loop-l-preserved c =
     let count = entries a.counts in
     let le = entry_at a.rows.now in
     let f = c.label_figures-label.ensures in (
-      omega arith,
-      rw (l.invariant.1, f.0) (fill_more (cost_at a.labels count le) 64 0 l.l (omega arith)),
-      rw (l.invariant.2, f.1) (fill_more (ceiling_at a.labels count le) 64 0 l.l (omega arith)),
+      rw (l.invariant.0, f.0) (fill_more (cost_at a.labels count le) 64 0 l.l (omega arith)),
+      rw (l.invariant.1, f.1) (fill_more (ceiling_at a.labels count le) 64 0 l.l (omega arith)),
     )
 
 pub returns : goal.returns
@@ -45,4 +43,4 @@ unfolding growing
 returns c =
     let l = c.loop-l in
     let end : l.l ≡ c.args.labels = omega arith in
-    rw (l.invariant.1, l.invariant.2, end) refl
+    rw (l.invariant.0, l.invariant.1, end) refl

@@ -1,5 +1,4 @@
 -- `costs::growth_labels` meets its contract. Invariant: the figures of the first l labels are filled in.
-use Prim.Native.Nat.{◌-◌, ◌≤◌}
 use mathlib.Core.Path.{◌≡◌}
 use Rattle.growth_answers.specs.Growing.{cost_at, ceiling_at}
 use Rattle.lists.specs.Tables.{filled}
@@ -9,9 +8,5 @@ use Rattle.costs.proofs.growth_labels.Given as goal
 
 abbrev pub invariant-loop-l : goal.invariant-loop-l
 invariant-loop-l s =
-    (s.l ≤ s.labels)
-    × (s.costs ≡ filled 64 0 (cost_at s.labels (entries s.counts) (entry_at s.rows)) s.l)
+    (s.costs ≡ filled 64 0 (cost_at s.labels (entries s.counts) (entry_at s.rows)) s.l)
     × (s.ceilings ≡ filled 64 0 (ceiling_at s.labels (entries s.counts) (entry_at s.rows)) s.l)
-
-abbrev pub decreases-loop-l : goal.decreases-loop-l
-decreases-loop-l l = l.labels - l.l

@@ -17,8 +17,8 @@ returns-then-counts-l-lt65535 c =
       c.ceiling-ceiling.ensures ∙ sym (room_ceiling a.labels count le a.l (omega arith)),
     )
 
-pub returns : goal.returns
-returns c =
+pub returns-else-counts-l-lt65535 : goal.returns-else-counts-l-lt65535
+returns-else-counts-l-lt65535 c =
     let a = c.args in
     let n = full_none a.labels (entries a.counts) (entry_at a.rows.now) a.l (omega arith) in
     (sym n.0, sym n.1)

@@ -9,12 +9,10 @@ use Rattle.decimals.proofs.refused_text.Goals as goal
 pub returns : goal.returns
 unfolding refused_text
 returns c =
-    let h = c in
-    let p = h in
-    let out = p.args.out.now in
-    let put = p.put_worded-length.ensures in
-    (front_handed put (length out) h.hand_out.ensures.0, front_left put out h.hand_out.ensures.1)
+    let out = c.args.out.now in
+    let put = rw c.from.ensures at c.put_worded-length.ensures in
+    (front_handed put (length out) c.hand_out.ensures.0, front_left put out c.hand_out.ensures.1)
 
 pub put_worded-length-requires : goal.put_worded-length-requires
 unfolding refused_text
-put_worded-length-requires c = omega (arith, refused_short c.args.number)
+put_worded-length-requires c = omega (arith, refused_short c.from.result)

@@ -21,23 +21,21 @@ derived_made file k walk key w e =
 
 pub overflow_add-at : goal.overflow_add-at
 overflow_add-at c =
-    let start = c in
-    let k = start.args.k in
-    omega (arith, room start.args.envelope.now start.args.starts.now (k + 1) start.requires.0 k (omega arith))
+    let r = c.args.read.now in
+    omega (arith, room r.envelope.now r.starts r.count r.located c.args.k c.requires)
 
 pub read_name-requires : goal.read_name-requires
 read_name-requires c =
-    let start = c in
-    let k = start.args.k in
-    omega (arith, room start.args.envelope.now start.args.starts.now (k + 1) start.requires.0 k (omega arith))
+    let r = c.args.read.now in
+    omega (arith, room r.envelope.now r.starts r.count r.located c.args.k c.requires)
 
 pub returns : goal.returns
 returns c =
-    let start = c in
-    let file = start.args.envelope.now in
-    let k = start.args.k in
+    let r = c.args.read.now in
+    let file = r.envelope.now in
+    let k = c.args.k in
     let walk = c.walk_to-walk in
-    let begins = start.requires.0.begins k (omega arith) in
-    let name = name_there file k (get_or start.args.starts.now k 0) begins c.read_name.ensures in
+    let begins = r.located.begins k c.requires in
+    let name = name_there file k (get_or r.starts k 0) begins c.read_name.ensures in
     derived_made file k walk.result c.label_key.result walk.ensures.0
     (c.label_key.ensures ∙ ap (label_key walk.result.secret) name)

@@ -9,14 +9,14 @@ use Rattle.desk.proofs.asked_record.Goals as goal
 
 pub returns-then-name-ne8 : goal.returns-then-name-ne8
 returns-then-name-ne8 c =
-    let a = c.args in
-    sym ((asked_none a.envelope.now a.records a.name.now).1 (other_length c.if-name-ne8.true))
+    let r = c.args.read.now in
+    sym ((asked_none r.envelope.now r.count c.args.name.now).1 (other_length c.if-name-ne8.true))
 
 pub returns : goal.returns
 returns c =
-    let a = c.args in
-    let file = a.envelope.now in
-    let name = a.name.now in
+    let r = c.args.read.now in
+    let file = r.envelope.now in
+    let name = c.args.name.now in
     let eight = c.if-name-ne8.false in
-    c.find_record.ensures ∙ ap (record_named file a.records) (c.read_name.ensures ∙ take_all 8 name (omega arith))
-    ∙ sym (asked_whole file a.records name eight)
+    c.find_record.ensures ∙ ap (record_named file r.count) (c.read_name.ensures ∙ take_all 8 name (omega arith))
+    ∙ sym (asked_whole file r.count name eight)

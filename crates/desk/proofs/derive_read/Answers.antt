@@ -1,33 +1,24 @@
--- `desk::derive_read` meets its contract: what the search for the name leads to.
-use Rattle.format.specs.declared.Found.TheVariants.{At, Nothing}
-use mathlib.Core.Path.{refl, sym, ◌∙◌}
-use Rattle.envelope_file.proofs.Deriving.{read_located, found_located, found_placed, found_falling, found_answer, none_answer}
+-- `desk::derive_read` meets its contract: the record that was asked for is among those read, and what the search leads to is the answer.
+use mathlib.Core.Path.{sym, ap, ◌∙◌}
+use Rattle.envelope_file.proofs.Deriving.{read_derived, asked_below}
+use Rattle.envelope_file.specs.Derive.{on_found}
 use Rattle.desk.proofs.derive_read.Goals as goal
-
-pub asked_record-requires : goal.asked_record-requires
-asked_record-requires c =
-    let start = c in
-    read_located start.args.envelope.now start.args.read start.requires.0 start.requires.1
 
 pub derive_record-requires : goal.derive_record-requires
 derive_record-requires c =
-    let start = c in
-    let file = start.args.envelope.now in (
-      found_located file start.args.read start.requires.0 start.requires.1 start.args.name.now (At c.in-At.k) c.in-At.ensures c.in-At.k refl,
-      found_placed file start.args.read start.requires.0 start.requires.1 start.args.name.now (At c.in-At.k) c.in-At.ensures c.in-At.k refl,
-      found_falling file start.args.read start.requires.0 start.requires.1 start.args.name.now (At c.in-At.k) c.in-At.ensures c.in-At.k refl,
-    )
+    let r = c.all-records.result in
+    asked_below r.envelope.now r.count c.args.name.now c.in-Some.k (sym c.in-Some.ensures)
 
-pub returns-in-At : goal.returns-in-At
-returns-in-At c =
-    let start = c in
-    c.derive_record.ensures
-    ∙ sym (found_answer start.args.envelope.now start.args.read start.requires.0 start.requires.1 start.args.name.now (At c.in-At.k)
-    c.in-At.ensures c.in-At.k refl)
+pub returns-in-Some : goal.returns-in-Some
+returns-in-Some c =
+    let a = c.args in
+    let all = c.all-records.ensures in
+    let found = rw (all.0, all.1) at c.in-Some.ensures in
+    rw all.0 at c.derive_record.ensures ∙ ap (on_found a.envelope.now) found ∙ read_derived a.envelope.now a.read c.requires.0 c.requires.1 a.name.now
 
-pub returns-in-Nothing : goal.returns-in-Nothing
-returns-in-Nothing c =
-    let start = c in
-    c.refuse.ensures
-    ∙ sym (none_answer start.args.envelope.now start.args.read start.requires.0 start.requires.1 start.args.name.now Nothing
-    c.in-Nothing.ensures refl)
+pub returns-in-None : goal.returns-in-None
+returns-in-None c =
+    let a = c.args in
+    let all = c.all-records.ensures in
+    let found = rw (all.0, all.1) at c.in-None.ensures in
+    c.refuse.ensures ∙ ap (on_found a.envelope.now) found ∙ read_derived a.envelope.now a.read c.requires.0 c.requires.1 a.name.now

@@ -10,7 +10,7 @@ use Rattle.desk_verbs.proofs.labels.Goals as goal
 pub put_labels-end-requires : goal.put_labels-end-requires
 put_labels-end-requires c =
     let l = c in
-    let file = l.args.envelope.now in
+    let file = c.in-Some.file.now in
     omega (arith, labels_few file, ap (λ (l : Labels). l.labels) l.read_labels-found.ensures)
 
 pub returns : goal.returns
@@ -19,4 +19,5 @@ returns c =
     let l = p in
     let e = c.ended_with.ensures in
     let said = ends_as _ _ c.ended_with.result _ (λ _. put_front p.put_labels-end.ensures) e.1 in
-    (e.0, rw l.read_labels-found.ensures at said)
+    let told = rw l.read_labels-found.ensures at said in
+    rw c.in-Some.is (e.0, told)

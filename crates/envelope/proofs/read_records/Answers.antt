@@ -1,75 +1,48 @@
 -- `envelope::read_records` meets its contract. Invariant: the file's answer and count are those of its rest, after the records read.
-use mathlib.Core.Path.{sym}
-use native.Mathlib.Omega.{arith}
-use Rattle.envelope_file.proofs.Reading.{reading_start, reading_located, reading_held, reading_under, reading_end, reading_refused, counted_end, counted_refused}
+use mathlib.Core.Path.{sym, ◌∙◌}
+use Rattle.envelope_records.proofs.Kept.{next_held, next_under}
+use Rattle.envelope_file.proofs.Reading.{reading_start, reading_held, reading_under, reading_end, reading_refused, counted_end, counted_refused}
 use Rattle.envelope.proofs.read_records.Goals as goal
+use Rattle.envelope.proofs.read_records.Goals.{in-End, in-Refused}
 
-pub loop-starts-init : goal.loop-starts-init
-loop-starts-init c = reading_start c.args.envelope.now c.requires
+pub loop-own-init : goal.loop-own-init
+loop-own-init c =
+    let e = c.none-read.ensures in
+    (e.0, rw (e.0, e.1, e.2, e.3) (reading_start c.args.envelope.now))
 
-pub read_record-kind-requires : goal.read_record-kind-requires
-read_record-kind-requires c =
-    let l = c.loop-starts in
-    let file = c.args.envelope.now in
-    (reading_located file l.starts l.places l.records l.at l.invariant, l.invariant.here, l.invariant.within)
+pub push-requires : goal.push-requires
+push-requires c = let r = c.loop-own.read in next_held r.envelope.now r.count (sym c.in-Held.ensures)
 
-pub bounds-starts-records : goal.bounds-starts-records
-bounds-starts-records c =
-    let l = c.loop-starts in
-    let file = c.args.envelope.now in
-    let e = sym c.in-Held.ensures in
-    omega (arith, (reading_held file l.starts l.places l.records l.at l.invariant e).few)
+pub loop-own-preserved-in-Held : goal.loop-own-preserved-in-Held
+loop-own-preserved-in-Held c =
+    let l = c.loop-own in
+    let r = l.read in
+    let e = c.push.ensures in
+    (e.0 ∙ l.invariant.0, rw (e.0, e.1, e.2, e.3) (reading_held r.envelope.now r.starts r.places r.count r.located.few l.invariant.1 r.end r.here (sym c.in-Held.ensures)))
 
-pub bounds-places-records : goal.bounds-places-records
-bounds-places-records c =
-    let l = c.loop-starts in
-    let file = c.args.envelope.now in
-    let e = sym c.in-Held.ensures in
-    omega (arith, (reading_held file l.starts l.places l.records l.at l.invariant e).few)
+pub push-requires-in-Under : goal.push-requires-in-Under
+push-requires-in-Under c = let r = c.loop-own.read in next_under r.envelope.now r.count (sym c.in-Under.ensures)
 
-pub loop-starts-preserved-in-Held : goal.loop-starts-preserved-in-Held
-loop-starts-preserved-in-Held c =
-    let l = c.loop-starts in
-    let file = c.args.envelope.now in
-    let e = sym c.in-Held.ensures in
-    reading_held file l.starts l.places l.records l.at l.invariant e
+pub loop-own-preserved : goal.loop-own-preserved
+loop-own-preserved c =
+    let l = c.loop-own in
+    let r = l.read in
+    let e = c.push-in-Under.ensures in
+    (e.0 ∙ l.invariant.0, rw (e.0, e.1, e.2, e.3) (reading_under r.envelope.now r.starts r.places r.count r.located.few l.invariant.1 r.end r.here (sym c.in-Under.ensures)))
 
-pub bounds-starts-records-in-Under : goal.bounds-starts-records-in-Under
-bounds-starts-records-in-Under c =
-    let b = c in
-    let l = b.loop-starts in
-    let file = b.args.envelope.now in
-    let e = sym c.in-Under.ensures in
-    omega (arith, (reading_under file l.starts l.places l.records l.at l.invariant e).few)
-
-pub bounds-places-records-in-Under : goal.bounds-places-records-in-Under
-bounds-places-records-in-Under c =
-    let b = c in
-    let l = b.loop-starts in
-    let file = b.args.envelope.now in
-    let e = sym c.in-Under.ensures in
-    omega (arith, (reading_under file l.starts l.places l.records l.at l.invariant e).few)
-
-pub loop-starts-preserved : goal.loop-starts-preserved
-loop-starts-preserved c =
-    let b = c in
-    let l = b.loop-starts in
-    let file = b.args.envelope.now in
-    let e = sym c.in-Under.ensures in
-    reading_under file l.starts l.places l.records l.at l.invariant e
-
-pub returns-in-End : goal.returns-in-End
-returns-in-End c =
-    let l = c.loop-starts in
-    let file = c.args.envelope.now in
-    let e = sym c.in-End.ensures in
-    (reading_end file l.starts l.places l.records l.at l.invariant e, counted_end file l.starts l.places l.records l.at l.invariant e)
-
-pub returns-in-Refused : goal.returns-in-Refused
-returns-in-Refused c =
-    let b = c in
-    let l = b.loop-starts in
-    let file = b.args.envelope.now in
-    let number = c.in-Refused.number in
-    let e = sym c.in-Refused.ensures in
-    (reading_refused file l.starts l.places l.records l.at l.invariant number e, counted_refused file l.starts l.places l.records l.at l.invariant number e)
+pub returns : goal.returns
+returns c =
+    let l = c.loop-own in
+    let r = l.read in
+    let f = r.envelope.now in
+    elim c.match-read_record.branch [
+      | in-End w ↦
+          let e = sym w.in-End.ensures in
+          rw (← l.invariant.0, w.refusal-is)
+          (reading_end f r.starts r.places r.count r.located.few l.invariant.1 e, counted_end f r.starts r.places r.count r.located.few l.invariant.1 e)
+      | in-Refused w ↦
+          let e = sym w.in-Refused.ensures in
+          let n = w.in-Refused.number in
+          rw (← l.invariant.0, w.refusal-is)
+          (reading_refused f r.starts r.places r.count r.located.few l.invariant.1 n e, counted_refused f r.starts r.places r.count r.located.few l.invariant.1 n e)
+    ]

@@ -1,7 +1,6 @@
 -- `envelope_labels::read_labels` meets its contract: the envelope's refusal, or its account and the names of its records.
 use mathlib.Core.Path.{◌≡◌, sym, ◌∙◌}
 use native.Mathlib.Omega.{arith}
-use Rattle.envelope_file.proofs.Deriving.{read_located}
 use Rattle.envelope_file.proofs.Labelled.{refused_answer, header_whole, read_answer}
 use Rattle.envelope_file.specs.Labels.{refused_labels}
 use Rattle.envelope_labels.proofs.read_labels.Goals as goal
@@ -19,15 +18,10 @@ read_number-account-requires c =
     let read = c.read_envelope-read in
     omega (arith, header_whole file read.result read.ensures c.if-read-ne0.false)
 
-pub read_names-requires : goal.read_names-requires
-read_names-requires c =
-    let file = c.args.envelope.now in
-    let read = c.read_envelope-read in
-    read_located file read.result read.ensures c.if-read-ne0.false
-
 pub returns : goal.returns
 returns c =
-    let b = c in
-    let file = b.args.envelope.now in
-    let read = b.read_envelope-read in
-    read_answer file read.result read.ensures b.if-read-ne0.false c.read_number-account.ensures c.read_names.ensures
+    let file = c.args.envelope.now in
+    let read = c.read_envelope-read in
+    let all = c.all-records.ensures in
+    let names = rw (all.0, all.1) at c.read_names.ensures in
+    rw all.1 (read_answer file read.result read.ensures c.if-read-ne0.false c.read_number-account.ensures names)

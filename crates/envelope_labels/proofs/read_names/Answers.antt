@@ -1,39 +1,43 @@
--- `envelope_labels::read_names` meets its contract. Invariant: the first i bytes of the names are filled in.
-use Prim.Native.Nat.{◌-◌, ◌/◌}
-use mathlib.Core.Path.{refl}
+-- `envelope_labels::read_names` meets its contract. Invariant: the names of the first k records are filled in.
+use Prim.Native.Nat.{ℕ, ◌+◌, ◌-◌}
+use mathlib.Core.Path.{◌≡◌, refl, ap, ◌∙◌}
 use native.Mathlib.Omega.{arith}
-use lib.ListN.{get_or}
+use lib.ListN.{length, get_or, drop, length-drop}
+use lib.Seq.{length-take-le}
+use Rattle.format.specs.Bytes.{bytes_at}
 use Rattle.lists.specs.Tables.{listed}
-use Rattle.envelope_file.proofs.Names.{byte_stored}
-use Rattle.envelope_file.proofs.Starts.{room}
+use Rattle.envelope_file.proofs.Names.{name_stored}
+use Rattle.envelope_file.proofs.Starts.{room, name_there}
 use Rattle.envelope_labels.proofs.read_names.Goals as goal
 
-pub loop-i-init : goal.loop-i-init
+pub loop-k-init : goal.loop-k-init
 unfolding listed
-loop-i-init c = (omega arith, refl)
+loop-k-init c = refl
 
-pub overflow_add-names : goal.overflow_add-names
-overflow_add-names c =
-    let start = c in
-    let a = start.args in
-    omega (arith, room a.envelope.now a.starts.now a.records start.requires (c.loop-i.i / 8) (omega arith))
+pub overflow_add-at : goal.overflow_add-at
+overflow_add-at c =
+    let r = c.args.read.now in
+    omega (arith, room r.envelope.now r.starts r.count r.located c.loop-k.k (omega arith))
 
-pub overflow_add-names-in-loop-i : goal.overflow_add-names-in-loop-i
-overflow_add-names-in-loop-i c =
-    let start = c in
-    let a = start.args in
-    omega (arith, room a.envelope.now a.starts.now a.records start.requires (c.loop-i.i / 8) (omega arith))
+pub overflow_add-at-in-loop-k : goal.overflow_add-at-in-loop-k
+overflow_add-at-in-loop-k c =
+    let r = c.args.read.now in
+    omega (arith, room r.envelope.now r.starts r.count r.located c.loop-k.k (omega arith))
 
-pub bounds-envelope-at : goal.bounds-envelope-at
-bounds-envelope-at c =
-    let start = c in
-    let a = start.args in
-    omega (arith, room a.envelope.now a.starts.now a.records start.requires (c.loop-i.i / 8) (omega arith))
+pub slice_bounds-copy_from_slice-end : goal.slice_bounds-copy_from_slice-end
+slice_bounds-copy_from_slice-end c =
+    let r = c.args.read.now in
+    omega (arith, room r.envelope.now r.starts r.count r.located c.loop-k.k (omega arith))
 
-pub loop-i-preserved : goal.loop-i-preserved
-loop-i-preserved c =
-    let l = c.loop-i in
-    let start = c in
-    let a = start.args in
-    let begins = start.requires.begins (l.i / 8) (omega arith) in
-    (omega arith, byte_stored a.envelope.now l.names l.i (get_or a.starts.now (l.i / 8) 0) (omega (arith, start.requires.few)) begins l.invariant.1)
+pub loop-k-preserved : goal.loop-k-preserved
+loop-k-preserved c =
+    let l = c.loop-k in
+    let r = c.args.read.now in
+    let file = r.envelope.now in
+    let start : ℕ = get_or r.starts l.k 0 in
+    let size : start + 2 + 8 - (start + 2) ≡ 8 = omega arith in
+    let copied = c.copy_from_slice.ensures.after ∙ ap (bytes_at file (start + 2)) size in
+    let h = room file r.starts r.count r.located l.k (omega arith) in
+    let eight = ap length copied ∙ length-take-le 8 (drop (start + 2) file) (omega (arith, length-drop (start + 2) file)) in
+    name_stored file l.names c.copy_from_slice.new.self l.k (omega (arith, r.located.few)) l.invariant
+    (name_there file l.k start (r.located.begins l.k (omega arith)) copied) eight

@@ -13,8 +13,8 @@ loop-m-preserved c =
     let p = c.loop-m in
     let a = c.args in
     let held = in_smallest (entry_at a.rows.now) (entries a.parents.now) a.l in
-    (omega arith, mark_filled held p.held p.m c.in_smallest.result p.invariant.1 c.in_smallest.ensures (omega arith))
+    mark_filled held p.held p.m c.in_smallest.result p.invariant c.in_smallest.ensures (omega arith)
 
 pub loop-m-init : goal.loop-m-init
 unfolding listed
-loop-m-init c = (omega arith, refl)
+loop-m-init c = refl

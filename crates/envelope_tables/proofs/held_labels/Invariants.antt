@@ -1,5 +1,4 @@
 -- `envelope_tables::held_labels` meets its contract. Invariant: the labels below m are filled in.
-use Prim.Native.Nat.{◌-◌, ◌≤◌}
 use mathlib.Core.Bool.{false}
 use mathlib.Core.Path.{◌≡◌}
 use Rattle.lists.specs.Tables.{filled}
@@ -9,7 +8,4 @@ use Rattle.weights.specs.Tables.{entries}
 use Rattle.envelope_tables.proofs.held_labels.Given as goal
 
 abbrev pub invariant-loop-m : goal.invariant-loop-m
-invariant-loop-m l = (l.m ≤ l.labels) × (l.held ≡ filled 64 false (in_smallest (entry_at l.rows) (entries l.parents) l.l) l.m)
-
-abbrev pub decreases-loop-m : goal.decreases-loop-m
-decreases-loop-m l = l.labels - l.m
+invariant-loop-m l = l.held ≡ filled 64 false (in_smallest (entry_at l.rows) (entries l.parents) l.l) l.m

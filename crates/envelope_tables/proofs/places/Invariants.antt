@@ -1,5 +1,4 @@
 -- `envelope_tables::places` meets its contract. Invariant: the first i places are filled in, and `before` is the next.
-use Prim.Native.Nat.{◌-◌, ◌≤◌}
 use mathlib.Core.Path.{◌≡◌}
 use Rattle.lists.specs.Tables.{filled}
 use Rattle.order.specs.Table.{entry_at}
@@ -8,7 +7,4 @@ use Rattle.envelope_tables.proofs.places.Given as goal
 
 abbrev pub invariant-loop-i : goal.invariant-loop-i
 invariant-loop-i l =
-    (l.i ≤ l.labels) × (l.before ≡ place_below (entry_at l.rows) l.l l.i) × (l.places ≡ filled 64 0 (place_below (entry_at l.rows) l.l) l.i)
-
-abbrev pub decreases-loop-i : goal.decreases-loop-i
-decreases-loop-i l = l.labels - l.i
+    (l.before ≡ place_below (entry_at l.rows) l.l l.i) × (l.places ≡ filled 64 0 (place_below (entry_at l.rows) l.l) l.i)

@@ -1,30 +1,17 @@
--- `faults::first_no_lower` meets its contract. Invariant: the answer is that of a search from label m on.
-use mathlib.Core.Bool.{not}
-use mathlib.Core.Path.{sym, ap, ◌∙◌}
+-- `faults::first_no_lower` meets its contract: the search's answer is the definition's.
+use mathlib.Core.Bool.{true, false}
+use mathlib.Core.Path.{◌≡◌, ◌∙◌}
 use native.Mathlib.Omega.{arith}
-use Rattle.faults.proofs.Searches.{none_past, lacks, no_lowers}
-use Rattle.format.proofs.Search.{hit_at, miss_at}
+use borrow.Author.Tests.{tests}
+use Rattle.std.proofs.Common.{rules}
+use Rattle.std.proofs.lemmas.Iterator.{first_from_Range}
+use Rattle.faults.proofs.Searches.{first_found, lacks, no_lowers}
 use Rattle.faults.proofs.first_no_lower.Goals as goal
 
-pub loop-m-preserved : goal.loop-m-preserved
-loop-m-preserved c =
-    let l = c.loop-m in
-    let f = c.lowers-lower in
+pub returns : goal.returns
+returns c =
     let a = c.args in
-    (omega arith, l.invariant.1 ∙ miss_at (lacks f.result) l.m a.labels (omega arith) (ap not c.if-not-lower-m.false))
-
-pub returns-then-labels-m : goal.returns-then-labels-m
-returns-then-labels-m c =
-    let l = c.loop-m in
-    let f = c.lowers-lower in
-    let a = c.args in
-    let same = no_lowers a.over a.pairs a.labels f.result f.ensures (omega arith) in
-    sym (sym same ∙ l.invariant.1 ∙ none_past (lacks f.result) l.m a.labels (omega arith))
-
-pub returns-then-not-lower-m : goal.returns-then-not-lower-m
-returns-then-not-lower-m c =
-    let l = c.loop-m in
-    let f = c.lowers-lower in
-    let a = c.args in
-    let same = no_lowers a.over a.pairs a.labels f.result f.ensures (omega arith) in
-    sym (sym same ∙ l.invariant.1 ∙ hit_at (lacks f.result) l.m a.labels (omega arith) (ap not c.if-not-lower-m.true))
+    let lower = c.lowers-lower in
+    first_found (lacks lower.result) 1 a.labels c.find.result
+    (first_from_Range _ _ _ _ (λ m. lacks lower.result m ≡ true) (λ m. lacks lower.result m ≡ false) c.find.ensures.ran (λ x q k. search (rules, tests)) (λ x q k. search (rules, tests)))
+    ∙ no_lowers a.over a.pairs a.labels lower.result lower.ensures (omega arith)

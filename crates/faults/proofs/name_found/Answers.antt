@@ -4,11 +4,11 @@ use Rattle.faults.proofs.Searches.{name_at, name_none}
 use Rattle.policy_file.specs.File.{name_of}
 use Rattle.faults.proofs.name_found.Goals as goal
 
-pub returns-in-At : goal.returns-in-At
+pub returns-in-Some : goal.returns-in-Some
 unfolding name_of
-returns-in-At c =
+returns-in-Some c =
     let a = c.args in
-    c.read_name.ensures ∙ sym (name_at a.policy.now _ c.in-At.is)
+    c.read_name.ensures ∙ sym (name_at a.policy.now _ c.in-Some.is)
 
-pub returns-in-Nothing : goal.returns-in-Nothing
-returns-in-Nothing c = let a = c.args in sym (name_none a.policy.now c.in-Nothing.is)
+pub returns-in-None : goal.returns-in-None
+returns-in-None c = let a = c.args in sym (name_none a.policy.now c.in-None.is)

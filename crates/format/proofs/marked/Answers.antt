@@ -1,10 +1,7 @@
--- `format::marked` meets its contract: the two bytes agree, one by one.
-use mathlib.Core.Path.{refl, sym}
-use native.Mathlib.Omega.{arith}
-use Rattle.format.proofs.Bytes.{two, same_agree}
+-- `format::marked` meets its contract: arrays are equal where their bytes agree, one by one.
+use mathlib.Core.Path.{sym, ◌∙◌}
+use Rattle.format.proofs.Bytes.{same_pointwise}
 use Rattle.format.proofs.marked.Goals as goal
 
 pub returns : goal.returns
-returns c =
-    let a = c.args in
-    rw (← (two a.s.now a.at c.requires)) (sym (same_agree _ a.mark 2 refl (omega arith)))
+returns c = let e = c.read_bytes.ensures in rw (← e) (c.eq.ensures ∙ sym (same_pointwise _ _))

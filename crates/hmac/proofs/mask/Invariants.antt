@@ -1,13 +1,10 @@
--- `hmac::mask` meets its contract. The invariant: the first `i` bytes are masked, zeros stand after them.
+-- `hmac::mask` meets its contract. The invariant: the bytes so far are masked, the rest is as it was.
 use mathlib.Core.Path.{◌≡◌}
-use Prim.Native.Nat.{◌≤◌, ◌-◌}
-use lib.ListN.{take, length}
-use Rattle.lists.specs.Buffer.{zero_filled}
-use Rattle.hmac.specs.Hmac.{masked}
+use mathlib.Core.List.{◌++◌, map}
+use lib.Bits.{bit_xor}
+use lib.ListN.{take, drop}
 use Rattle.hmac.proofs.mask.Given as goal
 
-abbrev pub invariant-loop-i : goal.invariant-loop-i
-invariant-loop-i l = (l.i ≤ 64) × (length l.out ≡ 64) × (l.out ≡ zero_filled 64 (masked l.pad (take l.i l.block)))
-
-abbrev pub decreases-loop-i : goal.decreases-loop-i
-decreases-loop-i l = 64 - l.i
+abbrev pub invariant-loop-byte : goal.invariant-loop-byte
+invariant-loop-byte l =
+    l.byte-items ≡ map (λ x. bit_xor x l.pad) (take l.byte-index l.fn.block) ++ drop l.byte-index l.fn.block

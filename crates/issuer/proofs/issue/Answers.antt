@@ -32,13 +32,13 @@ returns-then-number-ne0 c =
     let out = a.envelope.now in
     let same = p.plan_order-planned.ensures.0 in
     let ok = plan_accepted a.policy.now same f.if-planned-ne0.false in
-    let at = asked_told a.policy.now same a.name.now f.asked_label.ensures l.in-At.is in
+    let at = asked_told a.policy.now same a.name.now f.asked_label.ensures l.in-Some.is in
     let refused = number_refuses a.policy.now a.name.now a.account a.root.now (account_refusal a.policy.now a.root.now a.account) ok at n.account_refusal-number.ensures (omega arith) in
     (c.refuse-then-number-ne0.ensures ∙ sym (refused.issues (length out)), sym (refused.leaves out))
 
-pub returns-else-number-ne0 : goal.returns-else-number-ne0
+pub returns : goal.returns
 unfolding issued_of envelope_after
-returns-else-number-ne0 c =
+returns c =
     let i = c in
     let s = i in
     let n = s in
@@ -49,27 +49,27 @@ returns-else-number-ne0 c =
     let out = a.envelope.now in
     let same = p.plan_order-planned.ensures.0 in
     let ok = plan_accepted a.policy.now same f.if-planned-ne0.false in
-    let at = asked_told a.policy.now same a.name.now f.asked_label.ensures l.in-At.is in
+    let at = asked_told a.policy.now same a.name.now f.asked_label.ensures l.in-Some.is in
     let number = n.account_refusal-number.ensures in
     let none = s.if-number-ne0.false in
-    let whole = account_whole a.policy.now a.root.now a.account l.in-At.l number none in
-    let made = envelope_made a.policy.now same a.root.now whole s.read_secret-secret.ensures l.in-At.l a.account (p.plan_order-planned.ensures.1 ∙ plan_rows a.policy.now same f.if-planned-ne0.false (replicate 64 (replicate 64 false))) in (
+    let whole = account_whole a.policy.now a.root.now a.account l.in-Some.l number none in
+    let made = envelope_made a.policy.now same a.root.now whole s.read_secret-secret.ensures l.in-Some.l a.account (p.plan_order-planned.ensures.1 ∙ plan_rows a.policy.now same f.if-planned-ne0.false (replicate 64 (replicate 64 false))) in (
       issued_at a.policy.now a.name.now a.account a.root.now (account_refusal a.policy.now a.root.now a.account) ok at number none made (length out) i.issue_label.ensures.0,
       buffer_at a.policy.now a.name.now a.account a.root.now (account_refusal a.policy.now a.root.now a.account) ok at number none made out i.issue_label.ensures.1,
     )
 
-pub returns-in-Nothing : goal.returns-in-Nothing
+pub returns-in_default : goal.returns-in_default
 unfolding issued_of envelope_after
-returns-in-Nothing c =
+returns-in_default c =
     let f = c in
     let p = f in
     let a = p.args in
     let out = a.envelope.now in
     let same = p.plan_order-planned.ensures.0 in
     let ok = plan_accepted a.policy.now same f.if-planned-ne0.false in
-    let none = asked_told a.policy.now same a.name.now f.asked_label.ensures c.in-Nothing.is in
+    let none = asked_told a.policy.now same a.name.now f.asked_label.ensures c.in_default.is in
     let refused = by_asked_13 a.policy.now a.name.now a.account a.root.now (account_refusal a.policy.now a.root.now a.account) ok none in
-    (c.refuse-in-Nothing.ensures ∙ sym (refused.issues (length out)), sym (refused.leaves out))
+    (c.refuse-in_default.ensures ∙ sym (refused.issues (length out)), sym (refused.leaves out))
 
 pub asked_label-requires : goal.asked_label-requires
 asked_label-requires c =
@@ -82,14 +82,14 @@ account_refusal-number-requires c =
     let f = l in
     let p = f in
     let a = p.args in
-    told_within a.policy.now p.plan_order-planned.ensures.0 a.name.now f.asked_label.ensures l.in-At.is
+    told_within a.policy.now p.plan_order-planned.ensures.0 a.name.now f.asked_label.ensures l.in-Some.is
 
 pub read_secret-secret-requires : goal.read_secret-secret-requires
 read_secret-secret-requires c =
     let n = c in
     let l = n in
     let a = l.args in
-    omega (arith, account_whole a.policy.now a.root.now a.account l.in-At.l n.account_refusal-number.ensures c.if-number-ne0.false)
+    omega (arith, account_whole a.policy.now a.root.now a.account l.in-Some.l n.account_refusal-number.ensures c.if-number-ne0.false)
 
 pub issue_label-requires : goal.issue_label-requires
 issue_label-requires c =
@@ -98,4 +98,4 @@ issue_label-requires c =
     let p = f in
     let a = p.args in
     let same = p.plan_order-planned.ensures.0 in
-    (plan_hung a.policy.now same f.if-planned-ne0.false, told_below a.policy.now same a.name.now f.asked_label.ensures l.in-At.is)
+    (plan_hung a.policy.now same f.if-planned-ne0.false, told_below a.policy.now same a.name.now f.asked_label.ensures l.in-Some.is)

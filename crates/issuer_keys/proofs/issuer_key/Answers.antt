@@ -1,9 +1,9 @@
 -- `issuer_keys::issuer_key` meets its contract: each refusal in its turn, then the key of the label asked for.
 use Prim.Native.Nat.{ℕ}
 use mathlib.Core.List.{List}
-use mathlib.Core.Path.{◌≡◌, sym, ap, ◌∙◌}
+use mathlib.Core.Path.{sym, ap, ◌∙◌}
 use native.Mathlib.Omega.{arith}
-use lib.ListN.{length}
+use lib.Seq.{take_all}
 use Rattle.policy_file.specs.File.{name_of}
 use Rattle.issuer_answers.specs.Keys.{refused_key}
 use Rattle.issuer_answers.specs.declared.IssuerKey.{IssuerKey}
@@ -21,46 +21,38 @@ returns-then-plan-ne0 c =
     let number = plan_number a.policy.now p.plan_policy-plan.ensures in
     c.refuse_key.ensures ∙ ap refused_key number ∙ sym (key_policy a.policy.now a.name.now a.root.now (omega arith))
 
-pub returns-then-root-ne32 : goal.returns-then-root-ne32
-returns-then-root-ne32 c =
-    let i = c in
-    let f = i in
-    let p = f in
-    let a = p.args in
-    let same = p.plan_policy-plan.ensures in
-    let ok = plan_accepted a.policy.now same f.if-plan-ne0.false in
-    let asked = asked_told a.policy.now same a.name.now f.asked_label.ensures i.in-At.is in
-    c.refuse_key-then-root-ne32.ensures
-    ∙ sym (key_asked a.policy.now a.name.now a.root.now ok asked ∙ key_15 a.policy.now a.name.now a.root.now _ (omega (arith, i.if-root-ne32.true)))
-
-pub returns-else-root-ne32 : goal.returns-else-root-ne32
-unfolding name_of
-returns-else-root-ne32 c =
-    let n = c in
-    let s = n in
-    let r = s in
-    let i = r in
-    let f = i in
-    let p = f in
-    let a = p.args in
-    let same = p.plan_policy-plan.ensures in
-    let ok = plan_accepted a.policy.now same f.if-plan-ne0.false in
-    let asked = asked_told a.policy.now same a.name.now f.asked_label.ensures i.in-At.is in
-    let l = i.in-At.l in
-    let whole : length a.root.now ≡ 32 = omega (arith, i.if-root-ne32.false) in
-    let key =
-    key_made a.policy.now same a.root.now whole r.read_secret.ensures l s.secret_of-secret.ensures n.read_name.ensures c.label_key.ensures in
-    ap (λ (k : List ℕ). given k) key
-    ∙ sym (key_asked a.policy.now a.name.now a.root.now ok asked ∙ key_given a.policy.now a.name.now a.root.now l whole)
-
-pub returns-in-Nothing : goal.returns-in-Nothing
-returns-in-Nothing c =
+pub returns-in_default : goal.returns-in_default
+returns-in_default c =
     let a = c.args in
     let same = c.plan_policy-plan.ensures in
     let ok = plan_accepted a.policy.now same c.if-plan-ne0.false in
-    let asked = asked_told a.policy.now same a.name.now c.asked_label.ensures c.in-Nothing.is in
-    c.refuse_key-in-Nothing.ensures
+    let asked = asked_told a.policy.now same a.name.now c.asked_label.ensures c.in_default.is in
+    c.refuse_key-in_default.ensures
     ∙ sym (key_asked a.policy.now a.name.now a.root.now ok asked ∙ key_13 a.policy.now a.name.now a.root.now)
+
+pub returns-in_default-try_from : goal.returns-in_default-try_from
+returns-in_default-try_from c =
+    let a = c.args in
+    let same = c.plan_policy-plan.ensures in
+    let ok = plan_accepted a.policy.now same c.if-plan-ne0.false in
+    let asked = asked_told a.policy.now same a.name.now c.asked_label.ensures c.in-Some.is in
+    let other = c.in_default-try_from.ensures.1 in
+    c.refuse_key-in_default-try_from.ensures
+    ∙ sym (key_asked a.policy.now a.name.now a.root.now ok asked ∙ key_15 a.policy.now a.name.now a.root.now _ other)
+
+pub returns : goal.returns
+unfolding name_of
+returns c =
+    let a = c.args in
+    let same = c.plan_policy-plan.ensures in
+    let ok = plan_accepted a.policy.now same c.if-plan-ne0.false in
+    let asked = asked_told a.policy.now same a.name.now c.asked_label.ensures c.in-Some.is in
+    let l = c.in-Some.l in
+    let chunk = c.in-Ok.ensures.1 in
+    let start = chunk.same ∙ sym (take_all 32 a.root.now (omega (arith, chunk.long))) in
+    let key = key_made a.policy.now same a.root.now chunk.long start l c.secret_of-secret.ensures c.read_name.ensures c.label_key.ensures in
+    ap (λ (k : List ℕ). given k) key
+    ∙ sym (key_asked a.policy.now a.name.now a.root.now ok asked ∙ key_given a.policy.now a.name.now a.root.now l chunk.long)
 
 pub asked_label-requires : goal.asked_label-requires
 asked_label-requires c = let p = c in plan_within p.args.policy.now p.plan_policy-plan.ensures
@@ -71,7 +63,7 @@ secret_of-secret-requires c =
     let f = l in
     let p = f in
     let a = p.args in
-    told_hung a.policy.now p.plan_policy-plan.ensures a.name.now f.asked_label.ensures f.if-plan-ne0.false l.in-At.is
+    told_hung a.policy.now p.plan_policy-plan.ensures a.name.now f.asked_label.ensures f.if-plan-ne0.false l.in-Some.is
 
 pub overflow_mul-l : goal.overflow_mul-l
 overflow_mul-l c =
@@ -79,7 +71,7 @@ overflow_mul-l c =
     let f = l in
     let p = f in
     let a = p.args in
-    let within = told_within a.policy.now p.plan_policy-plan.ensures a.name.now f.asked_label.ensures l.in-At.is in
+    let within = told_within a.policy.now p.plan_policy-plan.ensures a.name.now f.asked_label.ensures l.in-Some.is in
     omega arith
 
 pub overflow_add-l : goal.overflow_add-l
@@ -88,7 +80,7 @@ overflow_add-l c =
     let f = l in
     let p = f in
     let a = p.args in
-    let within = told_within a.policy.now p.plan_policy-plan.ensures a.name.now f.asked_label.ensures l.in-At.is in
+    let within = told_within a.policy.now p.plan_policy-plan.ensures a.name.now f.asked_label.ensures l.in-Some.is in
     omega arith
 
 pub read_name-requires : goal.read_name-requires
@@ -97,5 +89,5 @@ read_name-requires c =
     let f = l in
     let p = f in
     let a = p.args in
-    let within = told_within a.policy.now p.plan_policy-plan.ensures a.name.now f.asked_label.ensures l.in-At.is in
+    let within = told_within a.policy.now p.plan_policy-plan.ensures a.name.now f.asked_label.ensures l.in-Some.is in
     omega arith

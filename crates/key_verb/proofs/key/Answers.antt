@@ -10,4 +10,5 @@ returns c =
     let k = f in
     let e = c.ended_with.ensures in
     let said = ends_as _ _ c.ended_with.result _ (λ _. put_front p.put_key-end.ensures) e.1 in
-    (e.0, rw (k.issuer_key-found.ensures, f.fingerprint-made.ensures) at said)
+    let told = rw (k.issuer_key-found.ensures, f.fingerprint-made.ensures) at said in
+    rw c.in-Some.is (e.0, told)

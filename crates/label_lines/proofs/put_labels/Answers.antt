@@ -10,19 +10,17 @@ use Rattle.label_lines.proofs.put_labels.Goals as goal
 
 pub returns : goal.returns
 unfolding bytes_of labels_text
-returns c =
-    let n = c in
-    put_next n.put_worded-start.ensures n.put_names.ensures
+returns c = put_next (rw c.from.ensures at c.put_worded-start.ensures) c.put_names.ensures
 
 pub put_worded-start-requires : goal.put_worded-start-requires
 unfolding bytes_of
 put_worded-start-requires c =
-    let x = c.args.account in
+    let x = c.from.result in
     omega (arith, worded_length (bytes_of "ACCOUNT") x, decimal_short x)
 
 pub put_names-requires : goal.put_names-requires
 unfolding bytes_of
 put_names-requires c =
-    let w = c in
-    let x = w.args.account in
-    (search rules, omega (arith, w.put_worded-start.ensures.behind, put_length w.put_worded-start.ensures, worded_length (bytes_of "ACCOUNT") x, decimal_short x))
+    let w = c.put_worded-start.ensures in
+    let x = c.from.result in
+    (search rules, omega (arith, w.behind, put_length w, worded_length (bytes_of "ACCOUNT") x, decimal_short x))

@@ -8,6 +8,6 @@ pub returns-then-option : goal.returns-then-option
 unfolding option_line
 returns-then-option c = rw c.if-option.true c.put_fingerprint.ensures
 
-pub returns : goal.returns
+pub returns-else-option : goal.returns-else-option
 unfolding option_line
-returns c = rw c.if-option.false (put_nothing _ _ (search rules))
+returns-else-option c = rw c.if-option.false (put_nothing _ _ (search rules))

@@ -1,58 +1,34 @@
--- `name_form::well_formed` meets its contract. Invariant: the name is well formed exactly when its rest from place i on is, after what was read.
-use mathlib.Core.Path.{◌≡◌, refl, sym, ◌∙◌}
+-- `name_form::well_formed` meets its contract. Invariant: the name is well formed exactly when its rest is, after what was read.
+use mathlib.Core.Path.{sym, ◌∙◌}
 use native.Mathlib.Omega.{arith}
-use lib.ListN.{get_or, drop_of_length-le}
+use lib.ListN.{drop_of_length-le}
 use Rattle.name_form.proofs.Names.{rest_start, rest_end, rest_sign, rest_late, rest_space, rest_refused}
-use Rattle.format.specs.Names.{class_of}
-use Rattle.format.specs.declared.Class.TheVariants.{Letter, Digit, Space, Refused}
 use Rattle.name_form.proofs.well_formed.Goals as goal
+use Rattle.name_form.proofs.well_formed.Goals.{in-Letter-2, in-Space}
 
-pub loop-i-init : goal.loop-i-init
-loop-i-init c = (omega arith, rest_start c.args.name.now)
+pub loop-byte-init : goal.loop-byte-init
+loop-byte-init c = rest_start c.args.name.now
 
-pub returns-then-padded : goal.returns-then-padded
-returns-then-padded c =
-    let l = c.loop-i in
-    let name = c.args.name.now in
-    let e : Letter ≡ class_of (get_or name l.i 0) = c.in-Letter.ensures in
-    sym (l.invariant.1 ∙ rest_late name l.i (omega arith) Letter refl e l.some l.padded c.if-padded.true)
-
-pub loop-i-preserved-in-Letter : goal.loop-i-preserved-in-Letter
-loop-i-preserved-in-Letter c =
-    let l = c.loop-i in
-    let name = c.args.name.now in
-    let e : Letter ≡ class_of (get_or name l.i 0) = c.in-Letter.ensures in
-    (omega arith, l.invariant.1 ∙ rest_sign name l.i (omega arith) Letter refl (λ rest pad. refl) e l.some l.padded c.if-padded.false)
-
-pub returns-then-padded-2 : goal.returns-then-padded-2
-returns-then-padded-2 c =
-    let l = c.loop-i in
-    let name = c.args.name.now in
-    let e : Digit ≡ class_of (get_or name l.i 0) = c.in-Digit.ensures in
-    sym (l.invariant.1 ∙ rest_late name l.i (omega arith) Digit refl e l.some l.padded c.if-padded-2.true)
-
-pub loop-i-preserved-in-Digit : goal.loop-i-preserved-in-Digit
-loop-i-preserved-in-Digit c =
-    let l = c.loop-i in
-    let name = c.args.name.now in
-    let e : Digit ≡ class_of (get_or name l.i 0) = c.in-Digit.ensures in
-    (omega arith, l.invariant.1 ∙ rest_sign name l.i (omega arith) Digit refl (λ rest pad. refl) e l.some l.padded c.if-padded-2.false)
-
-pub loop-i-preserved : goal.loop-i-preserved
-loop-i-preserved c =
-    let l = c.loop-i in
-    let name = c.args.name.now in
-    let e : Space ≡ class_of (get_or name l.i 0) = c.in-Space.ensures in
-    (omega arith, l.invariant.1 ∙ rest_space name l.i (omega arith) e l.some l.padded)
+pub returns-in-Letter : goal.returns-in-Letter
+returns-in-Letter c =
+    let l = c.loop-byte in
+    sym (l.invariant ∙ rest_late c.args.name.now l.byte-index (omega arith) c.class_of.result c.class_of.ensures l.some l.padded c.in-Letter.is c.if-padded.true)
 
 pub returns-in-Refused : goal.returns-in-Refused
 returns-in-Refused c =
-    let l = c.loop-i in
-    let name = c.args.name.now in
-    let e : Refused ≡ class_of (get_or name l.i 0) = c.in-Refused.ensures in
-    sym (l.invariant.1 ∙ rest_refused name l.i (omega arith) e l.some l.padded)
+    let l = c.loop-byte in
+    sym (l.invariant ∙ rest_refused c.args.name.now l.byte-index (omega arith) c.class_of.result c.class_of.ensures l.some l.padded c.in-Refused.is)
+
+pub loop-byte-preserved : goal.loop-byte-preserved
+loop-byte-preserved c =
+    let l = c.loop-byte in
+    elim c.match-class_of.branch [
+      | in-Letter-2 w ↦
+          rw (w.some-is, w.padded-is) (l.invariant ∙ rest_sign c.args.name.now l.byte-index (omega arith) c.class_of.result c.class_of.ensures l.some l.padded w.in-Letter.is w.if-padded.false)
+      | in-Space w ↦ rw (w.some-is, w.padded-is) (l.invariant ∙ rest_space c.args.name.now l.byte-index (omega arith) c.class_of.result c.class_of.ensures l.some l.padded w.in-Space.is)
+    ]
 
 pub returns : goal.returns
 returns c =
-    let l = c.loop-i in
-    sym (l.invariant.1 ∙ rw (drop_of_length-le c.args.name.now {i = l.i} (omega arith), rest_end))
+    let l = c.loop-byte in
+    sym (l.invariant ∙ rw (drop_of_length-le c.args.name.now {i = l.byte-index} (omega arith), rest_end))

@@ -1,9 +1,7 @@
--- `names::same_name` meets its contract: the eight bytes agree, one by one.
-use mathlib.Core.Path.{sym}
-use native.Mathlib.Omega.{arith}
-use Rattle.format.proofs.Bytes.{same_agree}
+-- `names::same_name` meets its contract: arrays are equal where their bytes agree, one by one.
+use mathlib.Core.Path.{sym, ◌∙◌}
+use Rattle.format.proofs.Bytes.{same_pointwise}
 use Rattle.names.proofs.same_name.Goals as goal
 
 pub returns : goal.returns
-returns c =
-    sym (same_agree c.args.a c.args.b 8 (omega arith) (omega arith))
+returns c = c.eq.ensures ∙ sym (same_pointwise _ _)

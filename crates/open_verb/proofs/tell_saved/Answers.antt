@@ -1,11 +1,11 @@
 -- `open_verb::tell_saved` meets its contract: what was written is said.
 use Rattle.buffers.proofs.Writes.{put_front}
-use Rattle.outcomes.proofs.Ending.{ends_as}
+use Rattle.outcomes.proofs.Ending.{ends_as, ends_said}
 use Rattle.open_verb.proofs.tell_saved.Goals as goal
 
-pub returns : goal.returns
-returns c =
+pub returns-in-Some : goal.returns-in-Some
+returns-in-Some c =
     let p = c in
     let e = c.ended_with.ensures in
     let said = ends_as _ _ c.ended_with.result _ (λ _. put_front p.put_opened-end.ensures) e.1 in
-    (e.0, said)
+    rw c.in-Some.is (e.0, ends_said _ c.ended_with.result said)

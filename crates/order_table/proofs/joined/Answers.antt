@@ -9,11 +9,11 @@ pub loop-l-preserved : goal.loop-l-preserved
 loop-l-preserved c =
     let h = c.loop-l in
     let a = c.args in
-    (length-set h.both h.l _ ∙ h.invariant.0, omega arith, joined_step a.row a.above h.both h.l (omega arith) (omega arith) h.invariant.0 c.loop-l-test.true h.invariant.2)
+    (length-set h.both h.l _ ∙ h.invariant.0, joined_step a.row a.above.now h.both h.l (omega arith) (omega arith) h.invariant.0 (omega arith) h.invariant.1)
 
 pub returns : goal.returns
 returns c =
     let h = c.loop-l in
     let a = c.args in
     let e : h.l ≡ 64 = omega arith in
-    joined_whole a.row a.above h.both (omega arith) (omega arith) h.invariant.0 (rw e at h.invariant.2)
+    joined_whole a.row a.above.now h.both (omega arith) (omega arith) h.invariant.0 (rw e at h.invariant.1)

@@ -1,29 +1,32 @@
--- `order_table::links` meets its contract. The loop's invariant: the table says what the first i pairs do.
+-- `order_table::links` meets its contract. The loop's invariant: the table says what the pairs gone through do.
+use mathlib.Core.Logic.{inl, inr}
+use mathlib.Core.Path.{sym}
 use native.Mathlib.Omega.{arith}
+use lib.ListN.{take}
+use lib.Seq.{take_all}
 use Rattle.order_table.proofs.Turns.{no_links, linked_down, lower_past, upper_past}
 use Rattle.order_table.proofs.links.Goals as goal
+use Rattle.order_table.proofs.links.Goals.{then-upper-lt64+then-lower-lt64, else-upper-lt64}
 
-pub loop-i-init : goal.loop-i-init
-loop-i-init c = (omega arith, no_links c.args.over)
+pub loop-pair-init : goal.loop-pair-init
+loop-pair-init c = no_links _
 
-pub loop-i-preserved-then-lower-lt64 : goal.loop-i-preserved-then-lower-lt64
-loop-i-preserved-then-lower-lt64 c =
-    let w = c in
-    let b = w in
-    let h = b.loop-i in
-    let a = b.args in
-    (omega arith, linked_down h.table a.over h.i (omega arith) h.invariant.1 w.wide-upper.result w.wide-lower.result w.wide-upper.ensures w.wide-lower.ensures c.if-upper-lt64.true c.if-lower-lt64.true)
+pub loop-pair-preserved : goal.loop-pair-preserved
+loop-pair-preserved c =
+    let h = c.loop-pair in
+    let over = take c.args.pairs c.args.over in
+    let upper = c.from-upper in
+    let lower = c.from-lower in
+    elim c.if-upper-lt64.branch [
+      | then-upper-lt64+then-lower-lt64 w ↦ rw w.table-is (linked_down h.table over h.pair-index (omega arith) h.invariant upper.result lower.result upper.ensures lower.ensures w.if-upper-lt64.true w.if-lower-lt64.true)
+      | else-upper-lt64 w ↦ rw w.table-is (elim w.else-upper-lt64.either [
+        | inl past ↦ lower_past h.table over h.pair-index (omega arith) h.invariant lower.result lower.ensures past.1
+        | inr past ↦ upper_past h.table over h.pair-index (omega arith) h.invariant upper.result upper.ensures past
+      ])
+    ]
 
-pub loop-i-preserved-else-lower-lt64 : goal.loop-i-preserved-else-lower-lt64
-loop-i-preserved-else-lower-lt64 c =
-    let w = c in
-    let b = w in
-    let h = b.loop-i in
-    (omega arith, lower_past h.table b.args.over h.i (omega arith) h.invariant.1 w.wide-lower.result w.wide-lower.ensures c.if-lower-lt64.false)
-
-pub loop-i-preserved : goal.loop-i-preserved
-loop-i-preserved c =
-    let w = c in
-    let b = w in
-    let h = b.loop-i in
-    (omega arith, upper_past h.table b.args.over h.i (omega arith) h.invariant.1 w.wide-upper.result w.wide-upper.ensures c.if-upper-lt64.false)
+pub returns : goal.returns
+returns c =
+    let h = c.loop-pair in
+    let over = take c.args.pairs c.args.over in
+    rw (sym (take_all h.pair-index over (omega arith))) h.invariant.links

@@ -1,10 +1,7 @@
--- `order_table::links` meets its contract. The loop's invariant: the table says what the first i pairs do.
-use Prim.Native.Nat.{◌≤◌, ◌-◌}
+-- `order_table::links` meets its contract. The loop's invariant: the table says what the pairs gone through do.
+use lib.ListN.{take}
 use Rattle.order_table.proofs.Turns.{Linking}
 use Rattle.order_table.proofs.links.Given as goal
 
-abbrev pub invariant-loop-i : goal.invariant-loop-i
-invariant-loop-i l = (l.i ≤ l.pairs) × Linking l.table l.over l.i
-
-abbrev pub decreases-loop-i : goal.decreases-loop-i
-decreases-loop-i l = l.pairs - l.i
+abbrev pub invariant-loop-pair : goal.invariant-loop-pair
+invariant-loop-pair l = Linking l.table (take l.pairs l.fn.over) l.pair-index

@@ -7,20 +7,15 @@ use Rattle.order_table.proofs.order_table.Goals as goal
 
 pub loop-m-init : goal.loop-m-init
 unfolding rows_below
-loop-m-init c = (omega arith, refl)
+loop-m-init c = refl
 
 pub loop-m-preserved : goal.loop-m-preserved
 loop-m-preserved c =
     let h = c.loop-m in
-    let b = c in
-    (omega arith, row_more h.rows c.label_row-row.result (entry_at b.links-links.result) h.m h.invariant.1 c.label_row-row.ensures)
+    row_more h.rows c.label_row.result (entry_at c.links-links.result) h.m h.invariant c.label_row.ensures
 
 pub returns : goal.returns
 returns c =
-    let h = c.loop-m in
-    let b = c in
-    let k = b.at_most in
-    let n = b.at_most-n in
-    let a = b.args in
-    rows_whole h.rows b.links-links.result a.over a.labels a.pairs n.result k.result h.m
-    (omega arith) n.ensures k.ensures (omega arith) b.links-links.ensures h.invariant.1
+    let a = c.args in
+    rows_whole c.loop-m.rows c.links-links.result a.over a.labels a.pairs c.min-m-end.result c.min.result c.loop-m.m
+    (omega arith) c.min-m-end.ensures c.min.ensures (omega arith) c.links-links.ensures c.loop-m.invariant

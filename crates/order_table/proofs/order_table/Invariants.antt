@@ -1,11 +1,7 @@
 -- `order_table::order_table` meets its contract. The loop's invariant: the rows of the labels below m are made.
-use Prim.Native.Nat.{◌≤◌, ◌-◌}
 use mathlib.Core.Path.{◌≡◌}
 use Rattle.order.specs.Table.{entry_at, rows_below}
 use Rattle.order_table.proofs.order_table.Given as goal
 
 abbrev pub invariant-loop-m : goal.invariant-loop-m
-invariant-loop-m l = (l.m ≤ l.n) × (l.rows ≡ rows_below l.m (entry_at l.links))
-
-abbrev pub decreases-loop-m : goal.decreases-loop-m
-decreases-loop-m l = l.n - l.m
+invariant-loop-m l = l.rows ≡ rows_below l.m (entry_at l.links)

@@ -1,9 +1,9 @@
 -- `padding::last_blocks` meets its contract.
+use mathlib.Core.Path.{◌∙◌}
 use Rattle.padding.proofs.Padding.{written}
 use Rattle.padding.proofs.last_blocks.Goals as goal
 
 pub returns : goal.returns
 returns c =
-    let a = c.args in
-    written a.rest.now a.total c.padded_end-end.result _ c.put_word.new.buffer c.put_word-2.new.buffer c.requires c.padded_end-end.ensures
-    (rw c.copy_from_slice.ensures.after) c.put_word.ensures c.put_word-2.ensures
+    written c.args.rest.now c.copy_from_slice.new.self c.copy_from_slice-2.new.self c.args.total c.padded_end-end.result
+    c.requires c.padded_end-end.ensures c.copy_from_slice.ensures.after (c.copy_from_slice-2.ensures.after ∙ c.to_be_bytes.ensures)

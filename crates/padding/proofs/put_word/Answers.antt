@@ -1,16 +1,10 @@
 -- `padding::put_word` meets its contract.
-use mathlib.Core.Path.{◌≡◌}
-use Prim.Native.Nat.{◌/◌, ◌%◌, ◌^◌}
-use Rattle.lists.proofs.Pasted.{pasted_four}
+use mathlib.Core.Path.{◌∙◌}
+use Rattle.lists.proofs.Pasted.{part_copied}
 use Rattle.padding.specs.Padding.{word_bytes}
 use Rattle.padding.proofs.put_word.Goals as goal
 
 pub returns : goal.returns
 unfolding word_bytes
 returns c =
-    let s = c in
-    let x = s.args.x in
-    let first : c.byte_at.result ≡ x / 2 ^ 24 % 256 = c.byte_at.ensures in
-    let second : c.byte_at-2.result ≡ x / 2 ^ 16 % 256 = c.byte_at-2.ensures in
-    let third : c.byte_at-3.result ≡ x / 2 ^ 8 % 256 = c.byte_at-3.ensures in
-    rw (third, second, first) (pasted_four s.args.buffer.now s.args.at _ _ _ _ s.requires)
+    part_copied c.args.buffer.now c.args.at (word_bytes c.args.x) _ c.requires (c.copy_from_slice.ensures.after ∙ c.to_be_bytes.ensures)

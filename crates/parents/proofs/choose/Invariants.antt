@@ -1,5 +1,4 @@
 -- `parents::choose` meets its contract. Invariant: the first m parents and weights are filled in.
-use Prim.Native.Nat.{◌-◌, ◌≤◌}
 use mathlib.Core.Path.{◌≡◌}
 use Rattle.lists.specs.Tables.{filled}
 use Rattle.order.specs.Table.{entry_at}
@@ -10,7 +9,4 @@ use Rattle.parents.proofs.choose.Given as goal
 abbrev pub invariant-loop-m : goal.invariant-loop-m
 invariant-loop-m l =
     let tree = plan l.labels (entries l.counts) (entry_at l.rows) in
-    (l.m ≤ l.labels) × (l.parents ≡ filled 64 0 tree l.m) × (l.weights ≡ filled 64 0 (held_weight l.labels (entries l.counts) (entry_at l.rows) tree) l.m)
-
-abbrev pub decreases-loop-m : goal.decreases-loop-m
-decreases-loop-m l = l.labels - l.m
+    (l.parents ≡ filled 64 0 tree l.m) × (l.weights ≡ filled 64 0 (held_weight l.labels (entries l.counts) (entry_at l.rows) tree) l.m)

@@ -24,6 +24,6 @@ pub returns : goal.returns
 unfolding text_written text_after
 returns c =
     let t = c in
-    let file = t.args.policy.now in
+    let file = c.in-Some.file.now in
     let r = c.ended_with in
-    (r.ensures.0, written_ends (policy_refusal file) (plan_text file) _ (omega (arith, text_suffices file)) t.plan_text-written.ensures.0 t.plan_text-written.ensures.1 r.result r.ensures.1)
+    rw c.in-Some.is (r.ensures.0, written_ends (policy_refusal file) (plan_text file) _ (omega (arith, text_suffices file)) t.plan_text-written.ensures.0 t.plan_text-written.ensures.1 r.result r.ensures.1)

@@ -8,4 +8,5 @@ returns c =
     let w = c in
     let e = c.ended_with.ensures in
     let said = ends_as _ _ c.ended_with.result _ (λ _. put_front c.put_weighed-end.ensures) e.1 in
-    (e.0, rw w.weigh-weighed.ensures at said)
+    let told = rw w.weigh-weighed.ensures at said in
+    rw c.in-Some.is (e.0, told)

@@ -1,5 +1,4 @@
 -- `policy_c::in_line` meets its contract. Invariant: the first i entries are filled in.
-use Prim.Native.Nat.{◌-◌}
 use mathlib.Core.Bool.{false}
 use mathlib.Core.List.{append-nil}
 use mathlib.Core.Path.{◌≡◌, refl}
@@ -11,7 +10,7 @@ use Rattle.policy_c.proofs.in_line.Goals as goal
 
 pub loop-i-init : goal.loop-i-init
 unfolding listed
-loop-i-init c = (omega arith, refl)
+loop-i-init c = refl
 
 pub loop-i-preserved : goal.loop-i-preserved
 unfolding line_entry
@@ -19,7 +18,7 @@ loop-i-preserved c =
     let l = c.loop-i in
     let a = c.args in
     let entry : c.at_or_below.result ≡ line_entry a.table.now l.i = c.at_or_below.ensures in
-    (omega arith, rw (l.invariant.1, entry) (fill_more (line_entry a.table.now) 4096 false l.i (omega arith)))
+    rw (l.invariant, entry) (fill_more (line_entry a.table.now) 4096 false l.i (omega arith))
 
 pub returns : goal.returns
 unfolding in_line
@@ -27,4 +26,4 @@ returns c =
     let l = c.loop-i in
     let a = c.args in
     let end : l.i ≡ 4096 = omega arith in
-    rw (end, append-nil) at l.invariant.1
+    rw (end, append-nil) at l.invariant

@@ -1,8 +1,7 @@
 -- `policy_reading::read_to_stop` meets its contract. Invariant: the file's stop is that of its rest, after what is read so far.
-use mathlib.Core.Path.{sym, ap, ◌∙◌}
+use mathlib.Core.Path.{sym, ◌∙◌}
 use native.Mathlib.Omega.{arith}
-use Rattle.policy_reading.proofs.Records.{so_far, kind_of, label_place, pair_place, reading_label, reading_over, reading_stopped}
-use Rattle.policy_file.specs.Whole.{refused_there}
+use Rattle.policy_reading.proofs.Records.{so_far, kind_of, label_place, pair_place, reading_label, reading_over, reading_end, reading_refused}
 use Rattle.policy_reading.proofs.read_to_stop.Goals as goal
 
 pub bounds-counts-labels : goal.bounds-counts-labels
@@ -37,12 +36,16 @@ loop-count-preserved c =
     let s = so_far l.labels l.pairs l.counts l.over in
     reading_over file s l.invariant c.in-Over.pair (kind_of file l.labels l.pairs r.result r.ensures ∙ c.in-Over.is)
 
-pub returns : goal.returns
-returns c =
+pub returns-in-End : goal.returns-in-End
+returns-in-End c =
     let l = c.loop-count in
     let file = c.args.policy.now in
     let r = c.read_record-record in
-    let s = so_far l.labels l.pairs l.counts l.over in
-    let same = kind_of file l.labels l.pairs r.result r.ensures in
-    ap (refused_there s) c.stop_number-refusal.ensures
-    ∙ sym (reading_stopped file l.labels l.pairs l.counts l.over l.invariant r.result.kind c.in_default.not-Label c.in_default.not-Over same)
+    sym (reading_end file (so_far l.labels l.pairs l.counts l.over) l.invariant (kind_of file l.labels l.pairs r.result r.ensures ∙ c.in-End.is))
+
+pub returns-in-Refused : goal.returns-in-Refused
+returns-in-Refused c =
+    let l = c.loop-count in
+    let file = c.args.policy.now in
+    let r = c.read_record-record in
+    sym (reading_refused file (so_far l.labels l.pairs l.counts l.over) l.invariant c.in-Refused.number (kind_of file l.labels l.pairs r.result r.ensures ∙ c.in-Refused.is))

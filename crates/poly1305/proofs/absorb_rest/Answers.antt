@@ -23,6 +23,6 @@ returns c =
       c.step.ensures.0,
       absorbed_rest (multiplier_value c.args.r) (value c.args.h % prime) rest
           (c.copy_from_slice.new.self ++ drop (length rest) (replicate 16 0))
-          (words_value c.words_at-number.result) (value c.step.result % prime) some c.requires.2
-          (rw c.copy_from_slice.ensures.after) c.words_at-number.ensures.1 c.step.ensures.1,
+          (words_value c.words_at.result) (value c.step.result % prime) some c.requires.2
+          (rw c.copy_from_slice.ensures.after) c.words_at.ensures.1 c.step.ensures.1,
     )

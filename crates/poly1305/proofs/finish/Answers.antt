@@ -15,5 +15,5 @@ returns c =
     let a = value w.args.h % prime in
     c.bytes_of.ensures
     ∙ ap (little_bytes 16) c.finish.ensures.1
-    ∙ sym (little_bytes_mod 16 (a + words_value w.words_at-s.result))
-    ∙ ap (λ (s : ℕ). little_bytes 16 (a + s)) w.words_at-s.ensures.1
+    ∙ sym (little_bytes_mod 16 (a + words_value w.words_at.result))
+    ∙ ap (λ (s : ℕ). little_bytes 16 (a + s)) w.words_at.ensures.1

@@ -7,42 +7,34 @@ use Rattle.record_writer.proofs.Parts.{put_as}
 use Rattle.record_writer.proofs.Single.{held_record_lem, under_record_lem}
 use Rattle.record_writer.proofs.put_record.Goals as goal
 
-pub returns-then-held : goal.returns-then-held
-unfolding name_of
-returns-then-held c =
-    let p = c in
-    let i = p in
-    let n = i.read_name-name in
-    let a = i.args in
-    let is = held_record_lem n.result (name_of a.policy.now a.m) a.secret a.place a.held n.ensures i.if-held.true in
-    put_as is p.put_held.ensures
-
-pub returns : goal.returns
-unfolding name_of
-returns c =
-    let p = c in
-    let i = p in
-    let n = i.read_name-name in
-    let a = i.args in
-    let is = under_record_lem n.result (name_of a.policy.now a.m) a.secret a.place a.held n.ensures i.if-held.false in
-    put_as is p.put_under.ensures
-
 pub put_held-requires : goal.put_held-requires
 unfolding name_of
 put_held-requires c =
-    let i = c in
-    let n = i.read_name-name in
-    let s = i in
-    let a = s.args in
-    let is = held_record_lem n.result (name_of a.policy.now a.m) a.secret a.place a.held n.ensures i.if-held.true in
-    omega (arith, s.requires.2, ap length is)
+    let a = c.args in
+    let n = c.read_name-name in
+    let is = held_record_lem n.result (name_of a.policy.now a.m) a.secret a.place a.held n.ensures c.if-held.true in
+    omega (arith, c.requires.2, ap length is)
+
+pub returns-then-held : goal.returns-then-held
+unfolding name_of
+returns-then-held c =
+    let a = c.args in
+    let n = c.read_name-name in
+    let is = held_record_lem n.result (name_of a.policy.now a.m) a.secret a.place a.held n.ensures c.if-held.true in
+    put_as is c.put_held.ensures
 
 pub put_under-requires : goal.put_under-requires
 unfolding name_of
 put_under-requires c =
-    let i = c in
-    let n = i.read_name-name in
-    let s = i in
-    let a = s.args in
-    let is = under_record_lem n.result (name_of a.policy.now a.m) a.secret a.place a.held n.ensures i.if-held.false in
-    omega (arith, s.requires.2, ap length is)
+    let a = c.args in
+    let n = c.read_name-name in
+    let is = under_record_lem n.result (name_of a.policy.now a.m) a.secret a.place a.held n.ensures c.if-held.false in
+    omega (arith, c.requires.2, ap length is)
+
+pub returns-else-held : goal.returns-else-held
+unfolding name_of
+returns-else-held c =
+    let a = c.args in
+    let n = c.read_name-name in
+    let is = under_record_lem n.result (name_of a.policy.now a.m) a.secret a.place a.held n.ensures c.if-held.false in
+    put_as is c.put_under.ensures

@@ -14,14 +14,13 @@ loop-i-preserved c =
     let l = p.loop-i in
     let a = p.args in (
       omega arith,
-      omega arith,
-      rw (concat_more (line_at a.policy.now a.roster) l.i) (put_next l.invariant.2 (account_put a.policy.now a.roster l.i (omega arith) p.put_account-at.ensures refl)),
+      rw (concat_more (line_at a.policy.now a.roster) l.i) (put_next l.invariant.1 (account_put a.policy.now a.roster l.i (omega arith) p.put_account-at.ensures refl)),
     )
 
 pub loop-i-init : goal.loop-i-init
 loop-i-init c =
     let a = c.args in
-    (omega arith, refl, rw (concat_none (line_at a.policy.now a.roster)) (put_none a.out.now))
+    (refl, rw (concat_none (line_at a.policy.now a.roster)) (put_none a.out.now))
 
 pub put_account-at-requires : goal.put_account-at-requires
 put_account-at-requires c =

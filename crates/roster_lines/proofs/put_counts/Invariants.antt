@@ -1,5 +1,4 @@
 -- `roster_lines::put_counts` meets its contract. Invariant: the lines of the first l labels are written.
-use Prim.Native.Nat.{◌-◌, ◌≤◌}
 use mathlib.Core.Path.{◌≡◌}
 use lib.ListN.{length}
 use Rattle.buffers.specs.Put.{Put}
@@ -9,7 +8,4 @@ use Rattle.weights.specs.Tables.{entries}
 use Rattle.roster_lines.proofs.put_counts.Given as goal
 
 abbrev pub invariant-loop-l : goal.invariant-loop-l
-invariant-loop-l s = (s.l ≤ s.labels) × (length s.out ≡ length s.initial.out) × Put s.initial.out s.out s.start (concat_below (count_line s.policy (entries s.counts)) s.l) s.at
-
-abbrev pub decreases-loop-l : goal.decreases-loop-l
-decreases-loop-l l = l.labels - l.l
+invariant-loop-l s = (length s.out ≡ length s.initial.out) × Put s.initial.out s.out s.start (concat_below (count_line s.policy (entries s.fn.counts)) s.l) s.at

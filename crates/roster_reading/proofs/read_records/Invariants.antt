@@ -4,9 +4,9 @@ use Rattle.roster_file.specs.Whole.{read_from}
 use Rattle.roster_reading.proofs.Turns.{Reached, left}
 use Rattle.roster_reading.proofs.read_records.Given as goal
 
-abbrev pub invariant-loop-refusal : goal.invariant-loop-refusal
-invariant-loop-refusal l =
-    (t : ℕ) × Reached l.policy l.labels l.file (read_from (length l.file) l.policy l.labels l.file 0 l.initial.roster) t l.refusal l.at l.roster
+abbrev pub invariant-loop-at : goal.invariant-loop-at
+invariant-loop-at l =
+    (t : ℕ) × Reached l.policy l.labels l.file (read_from (length l.file) l.policy l.labels l.file 0 l.initial.roster) t 0 l.at l.roster
 
-abbrev pub decreases-loop-refusal : goal.decreases-loop-refusal
-decreases-loop-refusal l = left l.policy l.labels l.file l.refusal l.at
+abbrev pub decreases-loop-at : goal.decreases-loop-at
+decreases-loop-at l = left l.policy l.labels l.file 0 l.at

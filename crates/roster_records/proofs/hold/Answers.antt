@@ -1,9 +1,9 @@
--- `hold` meets its contract: the step `held`, stored.
-use mathlib.Core.Path.{refl}
+-- `hold` meets its contract: the account takes the step that the record asks for.
+use Rattle.std.proofs.Common.{rules, refl}
 use Rattle.roster_file.specs.Machine.{asked_of, holding}
-use Rattle.roster_records.proofs.Law.{stepped_is}
+use Rattle.roster_records.proofs.Law.{altered_is}
 use Rattle.roster_records.proofs.hold.Goals as goal
 
 pub returns : goal.returns
 unfolding asked_of
-returns c = rw (c.held-step.ensures, c.place-at.ensures.0) (stepped_is holding 25 c.args.roster.now c.args.number (λ lacks. refl))
+returns c = altered_is holding 25 c.alter.ensures (λ lacks. refl) (λ account taken took. search rules)

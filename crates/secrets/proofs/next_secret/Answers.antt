@@ -15,11 +15,10 @@ returns-then-m-eq0 c =
 pub returns : goal.returns
 unfolding name_of
 returns c =
+    let a = c.args in
     let n = c.read_name in
-    let i = c in
-    let s = i in
-    let a = s.args in
     let parent = entries a.parents.now in
-    c.child_secret.ensures
-    ∙ secret_made (name_of a.policy.now) parent a.root a.m i.if-m-eq0.false (λ k l. s.requires.0.falls k (omega arith))
-    (secret_at a.secrets.now (parent a.m)) n.result (s.requires.1 i.if-m-eq0.false) n.ensures
+    let made = rw c.from.ensures at c.child_secret.ensures in
+    made
+    ∙ secret_made (name_of a.policy.now) parent a.root a.m c.if-m-eq0.false (λ k l. c.requires.0.falls k (omega arith))
+    (secret_at a.secrets.now (parent a.m)) n.result (c.requires.1 c.if-m-eq0.false) n.ensures

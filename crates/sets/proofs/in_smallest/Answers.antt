@@ -7,4 +7,4 @@ use Rattle.sets.proofs.in_smallest.Goals as goal
 pub returns : goal.returns
 returns c =
     let a = c.args in
-    in_smallest_held (entry_at a.rows.now) (entries a.parents.now) a.l a.m c.wide-parent.result c.wide-parent.ensures.0
+    in_smallest_held (entry_at a.rows.now) (entries a.parents.now) a.l a.m c.from-parent.result c.from-parent.ensures

@@ -11,7 +11,7 @@ use Rattle.sets.proofs.with_label.Goals as goal
 
 pub loop-l-init : goal.loop-l-init
 unfolding listed
-loop-l-init c = (omega arith, refl)
+loop-l-init c = refl
 
 pub counted-requires : goal.counted-requires
 counted-requires c =
@@ -28,11 +28,11 @@ loop-l-preserved c =
     let parent = entries a.parents.now in
     let held = c.in_smallest-held in
     let turn = c.counted.ensures ∙ sizes_turn le parent a.m l.l a.labels a.sizes s.requires.3 (omega arith) held.result held.ensures in
-    (omega arith, rw (l.invariant.1, turn) (fill_more (set_size (a.m + 1) le parent) 64 0 l.l (omega arith)))
+    rw (l.invariant, turn) (fill_more (set_size (a.m + 1) le parent) 64 0 l.l (omega arith))
 
 pub returns : goal.returns
 unfolding sizes_below
 returns c =
     let l = c.loop-l in
     let end : l.l ≡ c.args.labels = omega arith in
-    rw end at l.invariant.1
+    rw end at l.invariant

@@ -1,5 +1,5 @@
 -- `sets::with_label` meets its contract. Invariant: the first l sizes are filled in.
-use Prim.Native.Nat.{◌+◌, ◌-◌, ◌≤◌}
+use Prim.Native.Nat.{◌+◌}
 use mathlib.Core.Path.{◌≡◌}
 use Rattle.lists.specs.Tables.{filled}
 use Rattle.order.specs.Table.{entry_at}
@@ -7,7 +7,4 @@ use Rattle.weights.specs.Tables.{entries, set_size}
 use Rattle.sets.proofs.with_label.Given as goal
 
 abbrev pub invariant-loop-l : goal.invariant-loop-l
-invariant-loop-l s = (s.l ≤ s.labels) × (s.next ≡ filled 64 0 (set_size (s.m + 1) (entry_at s.rows) (entries s.parents)) s.l)
-
-abbrev pub decreases-loop-l : goal.decreases-loop-l
-decreases-loop-l l = l.labels - l.l
+invariant-loop-l s = s.next ≡ filled 64 0 (set_size (s.m + 1) (entry_at s.rows) (entries s.parents)) s.l

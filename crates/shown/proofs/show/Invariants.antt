@@ -1,11 +1,6 @@
 -- `shown::show` meets its contract. Invariant: the first i bytes are shown at the buffer's start.
-use Prim.Native.Nat.{◌-◌}
-use lib.ListN.{length}
 use Rattle.shown.proofs.Showing.{Showing}
 use Rattle.shown.proofs.show.Given as goal
 
 abbrev pub invariant-loop-i : goal.invariant-loop-i
 invariant-loop-i l = Showing l.value l.initial.out l.out l.i
-
-abbrev pub decreases-loop-i : goal.decreases-loop-i
-decreases-loop-i l = length l.value - l.i

@@ -32,7 +32,7 @@ returns-then-number-ne0 c =
     let out = a.envelope.now in
     let same = p.plan_order-planned.ensures.0 in
     let ok = plan_accepted a.policy.now same f.if-planned-ne0.false in
-    let at = asked_told a.policy.now same a.name.now c.in-At.ensures refl in
+    let at = asked_told a.policy.now same a.name.now c.in-Some.ensures refl in
     let refused = number_refuses a.policy.now a.name.now a.account a.root.now (standing_refusal a.standing a.root.now) ok at n.standing_refusal-number.ensures (omega arith) in
     (c.refuse-then-number-ne0.ensures ∙ sym (refused.issues (length out)), sym (refused.leaves out))
 
@@ -49,27 +49,27 @@ returns-else-number-ne0 c =
     let out = a.envelope.now in
     let same = p.plan_order-planned.ensures.0 in
     let ok = plan_accepted a.policy.now same f.if-planned-ne0.false in
-    let at = asked_told a.policy.now same a.name.now c.in-At.ensures refl in
+    let at = asked_told a.policy.now same a.name.now c.in-Some.ensures refl in
     let number = n.standing_refusal-number.ensures in
     let none = s.if-number-ne0.false in
-    let whole = standing_whole a.standing a.root.now c.in-At.l number none in
-    let made = envelope_made a.policy.now same a.root.now whole s.read_secret-secret.ensures c.in-At.l a.account (p.plan_order-planned.ensures.1 ∙ plan_rows a.policy.now same f.if-planned-ne0.false (replicate 64 (replicate 64 false))) in (
+    let whole = standing_whole a.standing a.root.now c.in-Some.l number none in
+    let made = envelope_made a.policy.now same a.root.now whole s.read_secret-secret.ensures c.in-Some.l a.account (p.plan_order-planned.ensures.1 ∙ plan_rows a.policy.now same f.if-planned-ne0.false (replicate 64 (replicate 64 false))) in (
       issued_at a.policy.now a.name.now a.account a.root.now (standing_refusal a.standing a.root.now) ok at number none made (length out) i.issue_label.ensures.0,
       buffer_at a.policy.now a.name.now a.account a.root.now (standing_refusal a.standing a.root.now) ok at number none made out i.issue_label.ensures.1,
     )
 
-pub returns-in-Nothing : goal.returns-in-Nothing
+pub returns-in-None : goal.returns-in-None
 unfolding standing_issued standing_after
-returns-in-Nothing c =
+returns-in-None c =
     let f = c in
     let p = f in
     let a = p.args in
     let out = a.envelope.now in
     let same = p.plan_order-planned.ensures.0 in
     let ok = plan_accepted a.policy.now same f.if-planned-ne0.false in
-    let none = asked_told a.policy.now same a.name.now c.in-Nothing.ensures refl in
+    let none = asked_told a.policy.now same a.name.now c.in-None.ensures refl in
     let refused = by_asked_13 a.policy.now a.name.now a.account a.root.now (standing_refusal a.standing a.root.now) ok none in
-    (c.refuse-in-Nothing.ensures ∙ sym (refused.issues (length out)), sym (refused.leaves out))
+    (c.refuse-in-None.ensures ∙ sym (refused.issues (length out)), sym (refused.leaves out))
 
 pub asked_label-requires : goal.asked_label-requires
 asked_label-requires c =
@@ -83,4 +83,4 @@ issue_label-requires c =
     let p = f in
     let a = p.args in
     let same = p.plan_order-planned.ensures.0 in
-    (plan_hung a.policy.now same f.if-planned-ne0.false, told_below a.policy.now same a.name.now c.in-At.ensures refl)
+    (plan_hung a.policy.now same f.if-planned-ne0.false, told_below a.policy.now same a.name.now c.in-Some.ensures refl)

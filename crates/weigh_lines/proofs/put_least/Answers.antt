@@ -7,6 +7,6 @@ pub returns-then-least : goal.returns-then-least
 unfolding bytes_of least_line
 returns-then-least c = rw c.if-least.true c.put_bytes.ensures
 
-pub returns : goal.returns
+pub returns-else-least : goal.returns-else-least
 unfolding bytes_of least_line
-returns c = rw c.if-least.false c.put_bytes-2.ensures
+returns-else-least c = rw c.if-least.false c.put_bytes-else-least.ensures

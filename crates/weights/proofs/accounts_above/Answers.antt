@@ -1,5 +1,4 @@
 -- `weights::accounts_above` meets its contract. Invariant: the first l entries are filled in, and they are small.
-use Prim.Native.Nat.{◌-◌}
 use mathlib.Core.Path.{◌≡◌, refl, sym}
 use native.Mathlib.Omega.{arith}
 use Rattle.lists.specs.Tables.{listed, filled}
@@ -11,7 +10,7 @@ use Rattle.weights.proofs.accounts_above.Goals as goal
 
 pub loop-l-init : goal.loop-l-init
 unfolding listed
-loop-l-init c = (omega arith, refl, λ k h. absurd (omega arith))
+loop-l-init c = (refl, λ k h. absurd (omega arith))
 
 pub loop-l-preserved : goal.loop-l-preserved
 loop-l-preserved c =
@@ -19,7 +18,7 @@ loop-l-preserved c =
     let a = c.args in
     let f = accounts_above (entries a.counts.now) (entry_at a.rows.now) a.m in
     let e = c.account_above.ensures in
-    (omega arith, rw (l.invariant.1, e.0) (fill_more f 64 0 l.l (omega arith)), small_more f l.l l.invariant.2 (small_as (sym e.0) e.1))
+    (rw (l.invariant.0, e.0) (fill_more f 64 0 l.l (omega arith)), small_more f l.l l.invariant.1 (small_as (sym e.0) e.1))
 
 pub returns : goal.returns
 unfolding above_table
@@ -28,5 +27,5 @@ returns c =
     let a = c.args in
     let f = accounts_above (entries a.counts.now) (entry_at a.rows.now) a.m in
     let end : l.l ≡ a.labels = omega arith in
-    let e : l.above ≡ filled 64 0 f a.labels = rw end at l.invariant.1 in
-    (e, small_filled f a.labels l.above e (λ k h. l.invariant.2 k (omega (arith, end))))
+    let e : l.above ≡ filled 64 0 f a.labels = rw end at l.invariant.0 in
+    (e, small_filled f a.labels l.above e (λ k h. l.invariant.1 k (omega (arith, end))))

@@ -1,0 +1,14 @@
+-- `plan::print_plan` meets its contract: the policy is the one that was read, or any if the call has failed.
+use mathlib.Core.List.{List, []}
+use Prim.Native.Nat.{ℕ}
+use Rattle.std.proofs.Common.{Bor}
+use Rattle.outcomes.proofs.Ending.{said_printed}
+use Rattle.outcomes.proofs.Reading.{over_done}
+use Rattle.policy_file.specs.Whole.{policy_refusal}
+use Rattle.plan_texts.specs.Listing.{plan_text}
+use Rattle.plan.proofs.print_plan.Goals as goal
+
+pub returns : goal.returns
+returns c =
+    let ended = over_done [] (λ (file : Bor (List ℕ)). file.now) policy_refusal plan_text _ c.plan.result c.plan.ensures in
+    (ended.0, said_printed _ _ c.print.ensures ended.1)

@@ -1,9 +1,0 @@
--- `words::big_sigma1` meets its contract.
-use Rattle.std.proofs.Common.{ap₂}
-use lib.Bits.{bit_xor}
-use Rattle.words.specs.Words.{big_sigma1}
-use Rattle.words.proofs.big_sigma1.Goals as goal
-
-pub returns : goal.returns
-unfolding big_sigma1
-returns c = ap₂ bit_xor (ap₂ bit_xor c.rotr.ensures c.rotr-2.ensures) c.rotr-3.ensures

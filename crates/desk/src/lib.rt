@@ -13,12 +13,18 @@ use envelope_records::Records;
 
 // The record that carries the name asked for; none if that does not have 8 bytes.
 fn asked_record(read: &Records, name: &[u8]) -> Option<usize>
-    ensures { result ≡ record_asked read.now.envelope.now read.now.count name.now }
+    ensures { result ≡ record_asked read.now.front.envelope.now read.now.front.count name.now }
 {
     if name.len() != 8 {
         return None;
     }
-    find_record(read, names::read_name(name, 0))
+    let front = &read.front;
+    find_record(
+        front.envelope,
+        front.count,
+        &front.starts,
+        names::read_name(name, 0),
+    )
 }
 
 // The answer with a refusal.

@@ -29,9 +29,9 @@ fn read_records(envelope: &[u8]) -> Contents
     let mut read = Records::none(envelope);
     // A `while let` would be no plainer: the loop ends at the end of the file, and at a refusal with its number.
     let refusal = loop {
-        match read_record(&read) {
+        match read_record(&read.front) {
             Kind::Held => {
-                let own = read.count as u8;
+                let own = read.front.count as u8;
                 read.push(42, own);
             }
             Kind::Under(place) => read.push(11, place),
@@ -39,11 +39,11 @@ fn read_records(envelope: &[u8]) -> Contents
             Kind::Refused(number) => break number,
         }
     };
-    let starts = read.starts;
+    let starts = read.front.starts;
     let places = read.places;
     Contents {
         refusal,
-        records: read.count,
+        records: read.front.count,
         starts,
         places,
     }

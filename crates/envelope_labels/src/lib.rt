@@ -10,12 +10,12 @@ use envelope_records::Records;
 
 // The names of an envelope's records, one after the other.
 fn read_names(read: &Records) -> [u8; 512]
-    ensures { result ≡ names_in read.now.envelope.now read.now.count }
+    ensures { result ≡ names_in read.now.front.envelope.now read.now.front.count }
 {
     let mut names = [0u8; 512];
-    for k in 0..read.count {
-        let at = read.starts[k] + 2;
-        names[8 * k..8 * k + 8].copy_from_slice(&read.envelope[at..at + 8]);
+    for k in 0..read.front.count {
+        let at = read.front.starts[k] + 2;
+        names[8 * k..8 * k + 8].copy_from_slice(&read.front.envelope[at..at + 8]);
     }
     names
 }
@@ -47,7 +47,7 @@ pub fn read_labels(envelope: &[u8]) -> Labels
         refusal: 0,
         zeros: [0u8; 5],
         account,
-        labels: records.count,
+        labels: records.front.count,
         names: read_names(&records),
     }
 }

@@ -5,11 +5,11 @@ ghost use Rattle.std.specs.Prelude.{◌≡◌, ◌+◌, ◌≤◌, length};
 ghost use Rattle.envelope_file.specs.Record.{held_kind, under_kind, envelope_kind};
 
 use envelope_file::Kind;
-use envelope_records::Records;
+use envelope_records::Front;
 use format::{KD, KS};
 
 // The next record, a whole `KS` record; the first carries the header's name.
-fn read_held(read: &Records) -> Kind
+fn read_held(read: &Front) -> Kind
     requires { read.now.end + 42 ≤ length read.now.envelope.now }
     ensures { result ≡ held_kind read.now.envelope.now read.now.count }
 {
@@ -27,7 +27,7 @@ fn read_held(read: &Records) -> Kind
 }
 
 // The next record, a whole `KD` record; it is not the first, and its place is less than its own.
-fn read_under(read: &Records) -> Kind
+fn read_under(read: &Front) -> Kind
     requires { read.now.end + 11 ≤ length read.now.envelope.now }
     ensures { result ≡ under_kind read.now.envelope.now read.now.count }
 {
@@ -46,7 +46,7 @@ fn read_under(read: &Records) -> Kind
 }
 
 // The next record.
-pub fn read_record(read: &Records) -> Kind
+pub fn read_record(read: &Front) -> Kind
     ensures { result ≡ envelope_kind read.now.envelope.now read.now.count }
 {
     let left = read.envelope.len() - read.end;

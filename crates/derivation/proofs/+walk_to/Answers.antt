@@ -25,53 +25,57 @@ walk_made file records f k l e above place secret a p s =
 
 pub overflow_add-at : goal.overflow_add-at
 overflow_add-at t c =
-    let r = c.args.read.now in
+    let read = c.args.read.now in
+    let r = read.front in
     let file = r.envelope.now in
     let k = c.args.k in
     omega (
       arith,
       held_room file r.starts r.count r.located k c.requires
-          (own_held file r.places r.count r.placed r.falling k c.requires (sym c.from-place.ensures ∙ c.if-place-k.true)),
+          (own_held file read.places r.count read.placed read.falling k c.requires (sym c.from-place.ensures ∙ c.if-place-k.true)),
     )
 
 pub read_secret-requires : goal.read_secret-requires
 read_secret-requires t c =
-    let r = c.args.read.now in
+    let read = c.args.read.now in
+    let r = read.front in
     let file = r.envelope.now in
     let k = c.args.k in
     omega (
       arith,
       held_room file r.starts r.count r.located k c.requires
-          (own_held file r.places r.count r.placed r.falling k c.requires (sym c.from-place.ensures ∙ c.if-place-k.true)),
+          (own_held file read.places r.count read.placed read.falling k c.requires (sym c.from-place.ensures ∙ c.if-place-k.true)),
     )
 
 pub returns-then-place-k : goal.returns-then-place-k
 returns-then-place-k t c =
-    let r = c.args.read.now in
+    let read = c.args.read.now in
+    let r = read.front in
     let file = r.envelope.now in
     let k = c.args.k in
-    let held = own_held file r.places r.count r.placed r.falling k c.requires (sym c.from-place.ensures ∙ c.if-place-k.true) in
+    let held = own_held file read.places r.count read.placed read.falling k c.requires (sym c.from-place.ensures ∙ c.if-place-k.true) in
     let secret = secret_there file k (get_or r.starts k 0) (r.located.begins k c.requires) c.read_secret.ensures in
     (ap (λ (x : List ℕ). record { secret = x; steps = 0 }) secret ∙ sym (walk_held file k held), omega arith)
 
 pub overflow_add-at-2 : goal.overflow_add-at-2
-overflow_add-at-2 t c = let r = c.args.read.now in omega (arith, room r.envelope.now r.starts r.count r.located c.args.k c.requires)
+overflow_add-at-2 t c = let r = c.args.read.now.front in omega (arith, room r.envelope.now r.starts r.count r.located c.args.k c.requires)
 
 pub read_name-requires : goal.read_name-requires
-read_name-requires t c = let r = c.args.read.now in omega (arith, room r.envelope.now r.starts r.count r.located c.args.k c.requires)
+read_name-requires t c = let r = c.args.read.now.front in omega (arith, room r.envelope.now r.starts r.count r.located c.args.k c.requires)
 
 pub returns : goal.returns
 returns t c =
-    let r = c.args.read.now in
+    let read = c.args.read.now in
+    let r = read.front in
     let file = r.envelope.now in
     let k = c.args.k in
     let place = c.from-place.ensures in
-    let other : get_or r.places k 0 ≡ k → ⊥ = λ z. c.if-place-k.false (place ∙ z) in
+    let other : get_or read.places k 0 ≡ k → ⊥ = λ z. c.if-place-k.false (place ∙ z) in
     let above = c.walk_to-above in
-    let under = other_under file r.places r.count r.placed r.falling k c.requires other in
+    let under = other_under file read.places r.count read.placed read.falling k c.requires other in
     let name = name_there file k (get_or r.starts k 0) (r.located.begins k c.requires) c.read_name.ensures in
     let secret = c.child_secret.ensures ∙ ap (child_secret above.result.secret) name in
-    let place_is = place ∙ r.placed.given k c.requires under in (
-      walk_made file r.count r.falling k c.requires under above.result c.from-place.result c.child_secret.result above.ensures.0 place_is secret,
-      omega (arith, above.ensures.1, place_bound file r.places r.count r.placed r.falling k c.requires, other),
+    let place_is = place ∙ read.placed.given k c.requires under in (
+      walk_made file r.count read.falling k c.requires under above.result c.from-place.result c.child_secret.result above.ensures.0 place_is secret,
+      omega (arith, above.ensures.1, place_bound file read.places r.count read.placed read.falling k c.requires, other),
     )

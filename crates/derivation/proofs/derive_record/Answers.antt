@@ -21,17 +21,17 @@ derived_made file k walk key w e =
 
 pub overflow_add-at : goal.overflow_add-at
 overflow_add-at c =
-    let r = c.args.read.now in
+    let r = c.args.read.now.front in
     omega (arith, room r.envelope.now r.starts r.count r.located c.args.k c.requires)
 
 pub read_name-requires : goal.read_name-requires
 read_name-requires c =
-    let r = c.args.read.now in
+    let r = c.args.read.now.front in
     omega (arith, room r.envelope.now r.starts r.count r.located c.args.k c.requires)
 
 pub returns : goal.returns
 returns c =
-    let r = c.args.read.now in
+    let r = c.args.read.now.front in
     let file = r.envelope.now in
     let k = c.args.k in
     let walk = c.walk_to-walk in

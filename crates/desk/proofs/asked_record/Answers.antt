@@ -9,12 +9,12 @@ use Rattle.desk.proofs.asked_record.Goals as goal
 
 pub returns-then-name-ne8 : goal.returns-then-name-ne8
 returns-then-name-ne8 c =
-    let r = c.args.read.now in
+    let r = c.args.read.now.front in
     sym ((asked_none r.envelope.now r.count c.args.name.now).1 (other_length c.if-name-ne8.true))
 
 pub returns : goal.returns
 returns c =
-    let r = c.args.read.now in
+    let r = c.args.read.now.front in
     let file = r.envelope.now in
     let name = c.args.name.now in
     let eight = c.if-name-ne8.false in

@@ -6,7 +6,7 @@ use Rattle.desk.proofs.derive_read.Goals as goal
 
 pub derive_record-requires : goal.derive_record-requires
 derive_record-requires c =
-    let r = c.all-records.result in
+    let r = c.all-records.result.front in
     asked_below r.envelope.now r.count c.args.name.now c.in-Some.k (sym c.in-Some.ensures)
 
 pub returns-in-Some : goal.returns-in-Some

@@ -5,7 +5,7 @@ use Rattle.envelope_file.proofs.Reading.{Reading}
 use Rattle.envelope.proofs.read_records.Given as goal
 
 abbrev pub invariant-loop-own : goal.invariant-loop-own
-invariant-loop-own l = (l.read.envelope.now ≡ l.envelope) × Reading l.read.envelope.now l.read.starts l.read.places l.read.count
+invariant-loop-own l = (l.read.front.envelope.now ≡ l.envelope) × Reading l.read.front.envelope.now l.read.front.starts l.read.places l.read.front.count
 
 abbrev pub decreases-loop-own : goal.decreases-loop-own
-decreases-loop-own l = 65 - l.read.count
+decreases-loop-own l = 65 - l.read.front.count

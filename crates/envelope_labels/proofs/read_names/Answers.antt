@@ -16,23 +16,23 @@ loop-k-init c = refl
 
 pub overflow_add-at : goal.overflow_add-at
 overflow_add-at c =
-    let r = c.args.read.now in
+    let r = c.args.read.now.front in
     omega (arith, room r.envelope.now r.starts r.count r.located c.loop-k.k (omega arith))
 
 pub overflow_add-at-in-loop-k : goal.overflow_add-at-in-loop-k
 overflow_add-at-in-loop-k c =
-    let r = c.args.read.now in
+    let r = c.args.read.now.front in
     omega (arith, room r.envelope.now r.starts r.count r.located c.loop-k.k (omega arith))
 
 pub slice_bounds-copy_from_slice-end : goal.slice_bounds-copy_from_slice-end
 slice_bounds-copy_from_slice-end c =
-    let r = c.args.read.now in
+    let r = c.args.read.now.front in
     omega (arith, room r.envelope.now r.starts r.count r.located c.loop-k.k (omega arith))
 
 pub loop-k-preserved : goal.loop-k-preserved
 loop-k-preserved c =
     let l = c.loop-k in
-    let r = c.args.read.now in
+    let r = c.args.read.now.front in
     let file = r.envelope.now in
     let start : ℕ = get_or r.starts l.k 0 in
     let size : start + 2 + 8 - (start + 2) ≡ 8 = omega arith in

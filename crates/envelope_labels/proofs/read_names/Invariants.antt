@@ -6,4 +6,4 @@ use Rattle.envelope_file.specs.Labels.{name_byte}
 use Rattle.envelope_labels.proofs.read_names.Given as goal
 
 abbrev pub invariant-loop-k : goal.invariant-loop-k
-invariant-loop-k l = l.names ≡ filled 512 0 (name_byte l.read.envelope.now) (8 * l.k)
+invariant-loop-k l = l.names ≡ filled 512 0 (name_byte l.read.front.envelope.now) (8 * l.k)

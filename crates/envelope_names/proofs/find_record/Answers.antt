@@ -13,38 +13,36 @@ loop-k-init c = (omega arith, first_start _ _)
 
 pub overflow_add-at : goal.overflow_add-at
 overflow_add-at c =
-    let r = c.args.read.now in
-    omega (arith, room r.envelope.now r.starts r.count r.located c.loop-k.k (omega arith))
+    let a = c.args in
+    omega (arith, room a.envelope.now a.starts.now a.records c.requires c.loop-k.k (omega arith))
 
 pub read_name-requires : goal.read_name-requires
 read_name-requires c =
-    let r = c.args.read.now in
-    omega (arith, room r.envelope.now r.starts r.count r.located c.loop-k.k (omega arith))
+    let a = c.args in
+    omega (arith, room a.envelope.now a.starts.now a.records c.requires c.loop-k.k (omega arith))
 
 pub loop-k-preserved : goal.loop-k-preserved
 loop-k-preserved c =
     let l = c.loop-k in
-    let r = c.args.read.now in
-    let file = r.envelope.now in
-    let name = c.args.name in
+    let start = c in
+    let file = start.args.envelope.now in
     let read = c.read_name in
-    let same = name_compared file r.starts r.count r.located l.k (omega arith) name read.result read.ensures in
-    let e : carries file name l.k ≡ false = same ∙ sym c.same_name.ensures ∙ c.if-same_name.false in
-    (omega arith, l.invariant.1 ∙ miss_at (carries file name) l.k r.count (omega arith) e)
+    let same = name_compared file start.args.starts.now start.args.records start.requires l.k (omega arith) start.args.name read.result read.ensures in
+    let e : carries file start.args.name l.k ≡ false = same ∙ sym c.same_name.ensures ∙ c.if-same_name.false in
+    (omega arith, l.invariant.1 ∙ miss_at (carries file start.args.name) l.k start.args.records (omega arith) e)
 
-pub returns-then-k-read : goal.returns-then-k-read
-returns-then-k-read c =
+pub returns-then-k-records : goal.returns-then-k-records
+returns-then-k-records c =
     let l = c.loop-k in
-    let r = c.args.read.now in
-    sym (l.invariant.1 ∙ none_at (carries r.envelope.now c.args.name) l.k r.count c.if-k-read.true)
+    let a = c.args in
+    sym (l.invariant.1 ∙ none_at (carries a.envelope.now a.name) l.k a.records c.if-k-records.true)
 
 pub returns-then-same_name : goal.returns-then-same_name
 returns-then-same_name c =
     let l = c.loop-k in
-    let r = c.args.read.now in
-    let file = r.envelope.now in
-    let name = c.args.name in
+    let start = c in
+    let file = start.args.envelope.now in
     let read = c.read_name in
-    let same = name_compared file r.starts r.count r.located l.k (omega arith) name read.result read.ensures in
-    let e : carries file name l.k ≡ true = same ∙ sym c.same_name.ensures ∙ c.if-same_name.true in
-    sym (l.invariant.1 ∙ hit_at (carries file name) l.k r.count (omega arith) e)
+    let same = name_compared file start.args.starts.now start.args.records start.requires l.k (omega arith) start.args.name read.result read.ensures in
+    let e : carries file start.args.name l.k ≡ true = same ∙ sym c.same_name.ensures ∙ c.if-same_name.true in
+    sym (l.invariant.1 ∙ hit_at (carries file start.args.name) l.k start.args.records (omega arith) e)

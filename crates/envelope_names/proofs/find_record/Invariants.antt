@@ -6,7 +6,7 @@ use Rattle.envelope_file.specs.File.{carries, record_named}
 use Rattle.envelope_names.proofs.find_record.Given as goal
 
 abbrev pub invariant-loop-k : goal.invariant-loop-k
-invariant-loop-k l = (l.k ≤ l.read.count) × (record_named l.read.envelope.now l.read.count l.name ≡ first_from (carries l.read.envelope.now l.name) l.k (l.read.count - l.k))
+invariant-loop-k l = (l.k ≤ l.records) × (record_named l.envelope l.records l.name ≡ first_from (carries l.envelope l.name) l.k (l.records - l.k))
 
 abbrev pub decreases-loop-k : goal.decreases-loop-k
-decreases-loop-k l = l.read.count - l.k
+decreases-loop-k l = l.records - l.k

@@ -10,8 +10,13 @@ invariant_of-result c =
     let same = c.requires.0 in
     let none = c.requires.1 in record {
       located = read_located file read same none;
-      placed = read_placed file read same none;
-      falling = read_falling file read same none;
       here = read_whole file read same none;
       within = omega arith;
     }
+
+pub invariant_of-result-2 : goal.invariant_of-result-2
+invariant_of-result-2 c =
+    let file = c.args.envelope.now in
+    let read = c.args.read in
+    let same = c.requires.0 in
+    let none = c.requires.1 in record { placed = read_placed file read same none; falling = read_falling file read same none }

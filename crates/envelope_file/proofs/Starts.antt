@@ -92,3 +92,17 @@ module _ (file places : List ℕ) (records : ℕ) (table : Placed file places re
       go : (held : Bool) → is_held file k ≡ held → get_or places k 0 ≤ k
       go true h = omega (arith, table.own k l h)
       go false h = omega (arith, f.falls k l h, table.given k l h)
+
+-- fewer records
+pub located_fewer : {file starts : List ℕ} {m n : ℕ} → m ≤ n → Located file starts n → Located file starts m
+located_fewer l table = record {
+  few = omega (arith, table.few);
+  begins = λ k h. table.begins k (omega arith);
+  within = λ k h. table.within k (omega arith);
+}
+
+pub placed_fewer : {file places : List ℕ} {m n : ℕ} → m ≤ n → Placed file places n → Placed file places m
+placed_fewer l table = record { own = λ k h. table.own k (omega arith); given = λ k h. table.given k (omega arith) }
+
+pub falling_fewer : {file : List ℕ} {m n : ℕ} → m ≤ n → Falling file n → Falling file m
+falling_fewer l f = record { falls = λ k h. f.falls k (omega arith) }

@@ -19,10 +19,10 @@ mark_filled f marks n mark e h l = ap₂ (λ (t : List Bool) (b : Bool). set t n
 
 module _ (le : ℕ → ℕ → Bool) (l m k : ℕ) (e : k ≡ place_below le l m) where
   -- the next label's place, label m being at or below l or not
-  place_more : le m l ≡ true → k + 1 ≡ place_below le l (m + 1)
+  pub place_more : le m l ≡ true → k + 1 ≡ place_below le l (m + 1)
   place_more y = rw (add-one k, add-one m) (ap suc e ∙ sym (place_here le l m y))
 
-  place_same : le m l ≡ false → k ≡ place_below le l (m + 1)
+  pub place_same : le m l ≡ false → k ≡ place_below le l (m + 1)
   place_same n = rw add-one (e ∙ sym (place_skip le l m n))
 
   -- the same by the table's entry

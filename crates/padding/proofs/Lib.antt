@@ -1,1 +1,2 @@
 pub mod Padding
+pub mod TwoWords

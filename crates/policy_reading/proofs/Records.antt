@@ -1,15 +1,17 @@
 -- Laws of a file that is read record by record.
 use Prim.Native.Nat.{ℕ, suc, ◌+◌, ◌-◌, ◌≤◌, ◌<◌}
 use mathlib.Core.List.{List}
+use mathlib.Core.Logic.{◌≢◌}
 use mathlib.Core.Path.{◌≡◌, refl, sym, ap, ◌∙◌}
 use native.Mathlib.Omega.{arith}
 use lib.ListN.{length, replicate}
 use Rattle.order.specs.declared.Pair.{Pair}
 use Rattle.policy_file.proofs.Meaning.{label_iff, over_iff}
 use Rattle.policy_file.specs.File.{place_of}
-use Rattle.policy_file.specs.Record.{policy_kind, with_name, record_at}
+use Rattle.policy_file.specs.Record.{policy_kind, kind_number, with_name, record_at}
 use Rattle.policy_file.specs.Whole.{no_pair, with_label, with_pair, refused_there, scan_from, stop_of}
 use Rattle.policy_file.specs.declared.Kind.TheVariants.{Label, Over, End, Refused}
+use Rattle.policy_file.specs.declared.Kind.{Kind}
 use Rattle.policy_file.specs.declared.Record.{Record}
 use Rattle.policy_file.specs.declared.Policy.{Policy}
 
@@ -89,3 +91,12 @@ module _ (file : List ℕ) (s : Policy) (r : Reading file s) where
 
   pub reading_refused : (number : ℕ) → policy_kind file s.labels s.pairs ≡ Refused number → stop_of file ≡ refused_there s number
   reading_refused number e = r.rest ∙ rw (more, scan_refused (577 - (s.labels + s.pairs + 1)) file s number e)
+
+-- a record that is neither a label nor a pair stops: at the end with 0, else with the number of the refusal
+module _ (file : List ℕ) (labels pairs : ℕ) (counts : List ℕ) (over : List Pair) (r : Reading file (so_far labels pairs counts over)) where
+  pub reading_stopped : (kind : Kind) → ((count : ℕ) → kind ≢ Label count) → ((pair : Pair) → kind ≢ Over pair) → policy_kind file labels pairs ≡ kind
+      → stop_of file ≡ refused_there (so_far labels pairs counts over) (kind_number kind)
+  reading_stopped (Label count) label over e = absurd (label count refl)
+  reading_stopped (Over p) label pair e = absurd (pair p refl)
+  reading_stopped End label pair e = reading_end file (so_far labels pairs counts over) r e
+  reading_stopped (Refused number) label pair e = reading_refused file (so_far labels pairs counts over) r number e

@@ -65,6 +65,13 @@ stored_is ask k roster number outside = go (is_number number) refl
         let e = ap ask (standing_out roster number lacks) ∙ outside lacks in
         subst (λ (c : Change). stored roster number c ≡ changed roster number c) (sym e) (refused_stored roster number k)
 
+-- and the change that the account itself asks for, as a record sees it: the number under which it is refused, and the roster in which it is stored
+pub stepped_is : (ask : Standing → Change) (k : ℕ) (roster : Roster) (number : ℕ) → (is_number number ≡ false → ask Unknown ≡ refuses k)
+    → ((stepped_by (account_at roster number) (ask (seen_as number (account_at roster number)))).refusal ≡ number_of (ask (standing_of roster number)))
+    × (stored roster number (ask (seen_as number (account_at roster number))) ≡ changed roster number (ask (standing_of roster number)))
+stepped_is ask k roster number outside =
+    rw (seen_is roster number) (refusal_is (account_at roster number) (ask (standing_of roster number)), stored_is ask k roster number outside)
+
 -- the account of a number took a step that does to each account what the record asks for
 pub altered_is : (ask : Standing → Change) (k : ℕ) {step : Account → Stepped → Type 0} {number : ℕ} {roster new : Roster} {answer : ℕ}
     → Altered step number roster new answer → (is_number number ≡ false → ask Unknown ≡ refuses k)

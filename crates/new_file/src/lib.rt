@@ -91,43 +91,6 @@ fn finish(
     rename(rt, name, path)
 }
 
-// Makes a file by way of a temporary one of this name, so that it is there only when it is whole.
-fn make_by(rt: HostRuntime, name: &mut [u8], path: &[u8], bytes: &[u8]) -> Result<(), Error> {
-    let file = create_temp(rt, name)?;
-    let made = finish(rt, file, name, path, bytes);
-    if made.is_err() {
-        let _ = unlink(rt, name);
-    }
-    made
-}
-
-// Makes a file by way of one beside it.
-fn make(rt: HostRuntime, path: &[u8], bytes: &[u8]) -> Result<(), Error> {
-    // Room for every path that an argument can be; the system refuses one that is too long.
-    let mut name = [0u8; 8192];
-    let length = name_beside(path, &mut name);
-    make_by(rt, &mut name[..length], path, bytes)
-}
-
-// Takes a name by an empty file, unless there is a file of that name.
-fn take(rt: HostRuntime, path: &[u8]) -> Result<File, Error> {
-    OpenOptions::new()
-        .write(true)
-        .create_new(true)
-        .open(&rt, arguments::path(path)?)
-}
-
-// Makes a file with these bytes, never over one that exists. The name is taken first, by an empty file, and the whole file is moved
-// over that. Where something fails nothing is left.
-fn make_new(rt: HostRuntime, path: &[u8], bytes: &[u8]) -> Result<(), Error> {
-    take(rt, path)?;
-    let made = make(rt, path, bytes);
-    if made.is_err() {
-        let _ = unlink(rt, path);
-    }
-    made
-}
-
 // How many bytes of a file that was to be made count: all of them, or none where it could not be made, and the reason is told.
 fn counted(
     rt: HostRuntime,
@@ -147,12 +110,71 @@ fn counted(
     }
 }
 
+// Makes a file by way of a temporary one of this name, so that it is there only when it is whole. Where it could not be made, the reason is told
+// before the temporary one is removed.
+fn make_by(
+    rt: HostRuntime,
+    program: &[u8],
+    name: &mut [u8],
+    path: &[u8],
+    bytes: &[u8],
+) -> Option<usize>
+    ensures { IfSome result (λ size. size ≡ length bytes.now) }
+{
+    match create_temp(rt, name) {
+        Ok(file) => {
+            let made = finish(rt, file, name, path, bytes);
+            let size = counted(rt, program, path, bytes, made);
+            if size.is_none() {
+                let _ = unlink(rt, name);
+            }
+            size
+        }
+        Err(error) => counted(rt, program, path, bytes, Err(error)),
+    }
+}
+
+// Makes a file by way of one beside it.
+fn make(rt: HostRuntime, program: &[u8], path: &[u8], bytes: &[u8]) -> Option<usize>
+    ensures { IfSome result (λ size. size ≡ length bytes.now) }
+{
+    // Room for every path that an argument can be; the system refuses one that is too long.
+    let mut name = [0u8; 8192];
+    let length = name_beside(path, &mut name);
+    make_by(rt, program, &mut name[..length], path, bytes)
+}
+
+// Takes a name by an empty file, unless there is a file of that name.
+fn take(rt: HostRuntime, path: &[u8]) -> Result<File, Error> {
+    OpenOptions::new()
+        .write(true)
+        .create_new(true)
+        .open(&rt, arguments::path(path)?)
+}
+
+// Makes a file with these bytes, never over one that exists. The name is taken first, by an empty file, and the whole file is moved
+// over that. Where something fails nothing is left.
+fn make_new(rt: HostRuntime, program: &[u8], path: &[u8], bytes: &[u8]) -> Option<usize>
+    ensures { IfSome result (λ size. size ≡ length bytes.now) }
+{
+    match take(rt, path) {
+        Ok(empty) => {
+            drop(empty);
+            let size = make(rt, program, path, bytes);
+            if size.is_none() {
+                let _ = unlink(rt, path);
+            }
+            size
+        }
+        Err(error) => counted(rt, program, path, bytes, Err(error)),
+    }
+}
+
 // Saves bytes in a new file, and answers how many it has: all of them. Whether it is made depends on the file system, of which no contract speaks.
 pub fn save(rt: HostRuntime, program: &[u8], path: &[u8], bytes: &[u8]) -> Option<usize>
     ensures { IfSome result (λ size. size ≡ length bytes.now) }
 {
-    let made = make_new(rt, path, bytes);
-    counted(rt, program, path, bytes, made)
+    make_new(rt, program, path, bytes)
 }
 
 // Removes a file that was saved.

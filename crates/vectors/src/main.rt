@@ -12,8 +12,6 @@ mod modules;
 mod policies;
 mod print;
 
-use std::io;
-
 // The files go to the operation as they stand; one that fills a buffer gets the last.
 // The operations stay numbers, those of tests/vectors.py: an enum would only say each twice, since they are read here alone.
 fn answer(
@@ -24,7 +22,7 @@ fn answer(
     b: &[u8],
     c: &[u8],
     buffer: &mut [u8],
-) -> io::Result<()> {
+) {
     match operation {
         0 => hashes::digest(rt, a, usize::from(number)),
         1 => hashes::mac(rt, a, b, usize::from(number)),
@@ -50,8 +48,8 @@ fn answer(
     }
 }
 
-fn case(rt: HostRuntime) -> io::Result<()> {
-    print::name(rt)?;
+fn case(rt: HostRuntime) {
+    print::name(rt);
     let operation = input::number(rt);
     let number = input::number(rt);
     let mut a = input::letters();
@@ -70,13 +68,12 @@ fn case(rt: HostRuntime) -> io::Result<()> {
         &b[..b_length],
         &c[..c_length],
         &mut d[..d_length],
-    )?;
-    println!(rt;)
+    );
+    let _ = println!(rt;);
 }
 
-fn main(rt: HostRuntime) -> io::Result<()> {
+fn main(rt: HostRuntime) {
     for _ in 0..input::number(rt) {
-        case(rt)?;
+        case(rt);
     }
-    Ok(())
 }

@@ -1,28 +1,26 @@
-// What lines are made of.
+// What lines are made of. A line that standard output does not take is dropped.
 use crate::input;
-use std::io;
 use std::io::Write;
 
 // The case's name.
-pub(crate) fn name(rt: HostRuntime) -> io::Result<()> {
+pub(crate) fn name(rt: HostRuntime) {
     let mut buffer = input::letters();
     let length = input::file(rt, &mut buffer);
-    rt.stdout().write_all(&buffer[..length])?;
-    print!(rt; ": ")
+    let _ = rt.stdout().write_all(&buffer[..length]);
+    let _ = print!(rt; ": ");
 }
 
 // Whether an operation accepted what it was given; a refusal is printed, as document 01 prints one.
-pub(crate) fn accepted(rt: HostRuntime, refusal: u8) -> io::Result<bool> {
+pub(crate) fn accepted(rt: HostRuntime, refusal: u8) -> bool {
     if refusal != 0 {
-        print!(rt; "REFUSED {refusal}")?;
+        let _ = print!(rt; "REFUSED {refusal}");
     }
-    Ok(refusal == 0)
+    refusal == 0
 }
 
 // The first `count` bytes in hexadecimal.
-pub(crate) fn hexadecimal(rt: HostRuntime, bytes: &[u8], count: usize) -> io::Result<()> {
+pub(crate) fn hexadecimal(rt: HostRuntime, bytes: &[u8], count: usize) {
     for byte in bytes.iter().take(count) {
-        print!(rt; "{byte:02x}")?;
+        let _ = print!(rt; "{byte:02x}");
     }
-    Ok(())
 }

@@ -60,7 +60,7 @@ pub fn read_secret(s: &[u8], at: usize) -> [u8; 32]
     requires { at + 32 ≤ length s.now }
     ensures { result ≡ bytes_at s.now at 32 }
 {
-    read_bytes(s, at)
+    read_bytes::<32>(s, at)
 }
 
 // The two-byte number that stands in `s` from `at` on.

@@ -59,12 +59,12 @@ pub fn weigh(files: Option<(&[u8], &[u8])>) -> Ended
 pub fn growth(policy: Option<&[u8]>) -> Ended
     ensures { MatchOption policy.entry (result ≡ Failed) (λ file. (is_done result ≡ true) × Ends (policy_refusal file.now) (growth_text file.now) result) }
 {
-    let Some(policy) = policy else {
+    let Some(bytes) = policy else {
         return Ended::Failed;
     };
     // 1,024 bytes suffice (`growth_suffices`, crate growth_answers).
     let mut out = [0u8; 1024];
-    let grown = growth_text::growth_text(policy, &mut out);
+    let grown = growth_text::growth_text(bytes, &mut out);
     let length = grown.length;
     outcomes::ended_with(grown.refusal, &out[..length])
 }

@@ -24,6 +24,6 @@ pub returns : goal.returns
 unfolding growth_written growth_after
 returns c =
     let t = c in
-    let file = c.in-Some.policy.now in
+    let file = c.in-Some.bytes.now in
     let r = c.ended_with in
     rw c.in-Some.is (r.ensures.0, written_ends (policy_refusal file) (growth_text file) _ (omega (arith, growth_suffices file)) t.growth_text-grown.ensures.0 t.growth_text-grown.ensures.1 r.result r.ensures.1)
